@@ -1,0 +1,3 @@
+pub mod TextLemmas
+pub mod StoreLemmas
+pub mod FilesLemmas

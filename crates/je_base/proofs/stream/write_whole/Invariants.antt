@@ -1,0 +1,7 @@
+-- What is gone from the piece was written.
+use Rattle.std.proofs.Common.{◌≡◌, ℕ, List, ◌++◌}
+use Rattle.std.specs.Io.KnownBytes.{Appends}
+use Rattle.je_base.proofs.stream.write_whole.Given as goal
+
+abbrev pub invariant-loop : goal.invariant-loop
+invariant-loop g l = (done : List ℕ) × (l.piece ≡ done ++ l.rest) × Appends (g.W.Write.contents l.initial.to) (g.W.Write.contents l.to) done

@@ -1,0 +1,11 @@
+pub mod Count
+pub mod Text
+pub mod Units
+pub mod Files
+pub mod Sink
+pub mod Store
+pub mod MemFiles
+pub mod MemSink
+pub mod Streams
+pub mod FsFiles
+pub mod StdSink

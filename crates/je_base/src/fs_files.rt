@@ -1,0 +1,146 @@
+//! The files of the real file system.
+
+ghost use Rattle.std.specs.Prelude.{◌≡◌, ◌≤◌, None, vec_len, IfOk, IfSome, IsErrOf, OnOk, OnErr};
+ghost use Rattle.je_base.specs.Count.{raised, HasFault};
+
+use crate::count::raised;
+use crate::files::Files;
+use crate::stop::{Failed, FileStop};
+use crate::stream::{read_front, write_whole};
+use std::alloc::Global;
+use std::io::ErrorKind;
+use std::marker::Model;
+use std::path::Path;
+use std::{fs, rt};
+
+/// The files of the real file system, over the part `R` of the runtime that reaches them. They tell no
+/// content and no paths.
+#[derive(Drop)]
+pub struct FsFiles<R> {
+    alloc: Global,
+    system: R,
+    reads: u64,
+    writes: u64,
+    faults: u64,
+}
+
+impl<R> Model for FsFiles<R> {
+    ghost use Rattle.je_base.specs.FsFiles.{FilesCounts};
+
+    ghost Value = { FilesCounts };
+
+    ghost view = { λ f. record { reads = f.reads; writes = f.writes; faults = f.faults } };
+}
+
+impl<R: rt::Files> FsFiles<R> {
+    /// The files that `system` reaches, with no reads, writes or faults yet.
+    pub fn new(alloc: Global, system: R) -> FsFiles<R>
+        ensures { result ≡ record { reads = 0; writes = 0; faults = 0 } }
+    {
+        FsFiles {
+            alloc,
+            system,
+            reads: 0,
+            writes: 0,
+            faults: 0,
+        }
+    }
+
+    /// How many reads there were.
+    pub fn reads(&self) -> u64
+        ensures { result ≡ self.now.reads }
+    {
+        self.reads
+    }
+
+    /// How many writes there were.
+    pub fn writes(&self) -> u64
+        ensures { result ≡ self.now.writes }
+    {
+        self.writes
+    }
+
+    /// How many reads and writes answered an error.
+    pub fn faults(&self) -> u64
+        ensures { result ≡ self.now.faults }
+    {
+        self.faults
+    }
+}
+
+impl<R: rt::Files> Files for FsFiles<R> {
+    ghost contents = { λ _. None };
+
+    ghost asked = { λ _. None };
+
+    ghost reads = { λ f. f.reads };
+
+    ghost writes = { λ f. f.writes };
+
+    ghost faults = { λ f. f.faults };
+
+    fn read(&mut self, path: &str, limit: usize) -> Result<Option<Vec<u8>>, FileStop>
+        // Each error is on record, want of memory too.
+        ensures ok { OnOk result (self.new ≡ record self.old { reads = raised self.old.reads }) }
+        ensures err { OnErr result (self.new ≡ record self.old { reads = raised self.old.reads; faults = raised self.old.faults }) }
+        ensures within { IfOk result (λ found. IfSome found (λ bytes. vec_len bytes ≤ limit)) }
+        ensures faults { self.old.faults ≤ self.new.faults }
+        ensures failed { IsErrOf result FileStop.Failed → HasFault self.old.faults self.new.faults }
+    {
+        self.reads = raised(self.reads);
+        let found = read_file(self.alloc, &self.system, path, limit);
+        if found.is_err() {
+            self.faults = raised(self.faults);
+        }
+        found
+    }
+
+    fn write(&mut self, path: &str, bytes: &[u8]) -> Result<(), Failed>
+        ensures done { OnOk result (self.new ≡ record self.old { writes = raised self.old.writes }) }
+        ensures err { OnErr result (self.new ≡ record self.old { writes = raised self.old.writes; faults = raised self.old.faults }) }
+        ensures faults { self.old.faults ≤ self.new.faults }
+        ensures failed { OnErr result (HasFault self.old.faults self.new.faults) }
+    {
+        self.writes = raised(self.writes);
+        let done = write_file(&self.system, path, bytes);
+        if done.is_err() {
+            self.faults = raised(self.faults);
+        }
+        done
+    }
+}
+
+/// The first `limit` bytes of a file, or `None` where there is none.
+fn read_file<R: rt::Files>(
+    alloc: Global,
+    system: &R,
+    path: &str,
+    limit: usize,
+) -> Result<Option<Vec<u8>>, FileStop>
+    ensures { IfOk result (λ found. IfSome found (λ bytes. vec_len bytes ≤ limit)) }
+{
+    match fs::open(system, path) {
+        Ok(file) => {
+            let mut file = file;
+            Ok(Some(read_front(alloc, &mut file, limit)?))
+        }
+        Err(e) if e.kind() == ErrorKind::NotFound => Ok(None),
+        Err(_) => Err(FileStop::Failed),
+    }
+}
+
+/// Makes the folders that are missing, and the file.
+fn write_file<R: rt::Files>(system: &R, path: &str, bytes: &[u8]) -> Result<(), Failed> {
+    if let Some(folder) = Path::new(path).parent() {
+        if fs::create_dir_all(system, folder).is_err() {
+            return Err(Failed);
+        }
+    }
+    match fs::create(system, path) {
+        Ok(file) => {
+            let mut file = file;
+            write_whole(&mut file, bytes)
+        }
+        Err(_) => Err(Failed),
+    }
+}

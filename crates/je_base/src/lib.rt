@@ -1,0 +1,32 @@
+//! The outside of the editor, and texts.
+//!
+//! Traits for files and for sinks of bytes, each with one implementation in memory and one over the real
+//! system, and class file texts. Stands on std alone. Offers above: what each read, write and put does
+//! where it is told, and that a failure is never answered without a fault on record.
+#![tactic(auto)]
+
+mod count;
+mod files;
+mod fs_files;
+mod mem_files;
+mod mem_sink;
+mod pos;
+mod sink;
+mod std_sink;
+mod stop;
+mod store;
+mod stream;
+mod text;
+
+pub use files::Files;
+pub use fs_files::FsFiles;
+pub use mem_files::MemFiles;
+pub use mem_sink::MemSink;
+pub use pos::Pos;
+pub use sink::Sink;
+pub use std_sink::StdSink;
+pub use stop::{Failed, FileStop, Memory};
+pub use text::Text;
+
+#[cfg(test)]
+mod tests;

@@ -1,0 +1,95 @@
+//! The standard streams.
+
+ghost use Rattle.std.specs.Prelude.{◌≡◌, ◌≤◌, None, OnOk, OnErr};
+ghost use Rattle.je_base.specs.Count.{raised, HasFault};
+
+use crate::count::raised;
+use crate::sink::Sink;
+use crate::stop::Failed;
+use crate::stream::write_whole;
+use std::io::{Stderr, Stdout, Write};
+use std::marker::Model;
+
+/// A standard stream `W`. It tells no bytes.
+#[derive(Drop)]
+pub struct StdSink<W> {
+    stream: W,
+    puts: u64,
+    faults: u64,
+}
+
+impl<W> Model for StdSink<W> {
+    ghost use Rattle.je_base.specs.StdSink.{SinkCounts};
+
+    ghost Value = { SinkCounts };
+
+    ghost view = { λ s. record { puts = s.puts; faults = s.faults } };
+}
+
+impl StdSink<Stdout> {
+    /// The standard output, with no puts or faults yet.
+    pub fn output(stream: Stdout) -> StdSink<Stdout>
+        ensures { result ≡ record { puts = 0; faults = 0 } }
+    {
+        StdSink {
+            stream,
+            puts: 0,
+            faults: 0,
+        }
+    }
+}
+
+impl StdSink<Stderr> {
+    /// The standard error stream, with no puts or faults yet.
+    pub fn error(stream: Stderr) -> StdSink<Stderr>
+        ensures { result ≡ record { puts = 0; faults = 0 } }
+    {
+        StdSink {
+            stream,
+            puts: 0,
+            faults: 0,
+        }
+    }
+}
+
+impl<W: Write> StdSink<W> {
+    /// How many puts there were.
+    pub fn puts(&self) -> u64
+        ensures { result ≡ self.now.puts }
+    {
+        self.puts
+    }
+
+    /// How many puts failed.
+    pub fn faults(&self) -> u64
+        ensures { result ≡ self.now.faults }
+    {
+        self.faults
+    }
+}
+
+impl<W: Write> Sink for StdSink<W> {
+    ghost bytes = { λ _. None };
+
+    ghost puts = { λ s. s.puts };
+
+    ghost faults = { λ s. s.faults };
+
+    fn put(&mut self, piece: &[u8]) -> Result<(), Failed>
+        // Each error is on record.
+        ensures done { OnOk result (self.new ≡ record self.old { puts = raised self.old.puts }) }
+        ensures err { OnErr result (self.new ≡ record self.old { puts = raised self.old.puts; faults = raised self.old.faults }) }
+        ensures faults { self.old.faults ≤ self.new.faults }
+        ensures failed { OnErr result (HasFault self.old.faults self.new.faults) }
+    {
+        self.puts = raised(self.puts);
+        let mut done = write_whole(&mut self.stream, piece);
+        if done.is_ok() && self.stream.flush().is_err() {
+            done = Err(Failed);
+        }
+        if done.is_err() {
+            self.faults = raised(self.faults);
+        }
+        done
+    }
+}

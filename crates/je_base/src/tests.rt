@@ -1,0 +1,108 @@
+use crate::files::Files;
+use crate::fs_files::FsFiles;
+use crate::mem_files::MemFiles;
+use crate::mem_sink::MemSink;
+use crate::sink::Sink;
+use crate::std_sink::StdSink;
+use crate::stop::{Failed, FileStop};
+use crate::text::Text;
+use std::fs;
+use std::test::Fail;
+
+#[test]
+fn texts_are_modified_utf8(rt: HostRuntime) -> Result<(), Fail> {
+    let table: [(&[u8], bool); 8] = [
+        (b"", true),
+        (b"Code", true),
+        (b"\xc0\x80", true),
+        (b"\xed\xa0\xbd", true),
+        (b"\x00", false),
+        (b"\xed\xa0", false),
+        (b"\x80", false),
+        (b"\xf0\x9f\x98\x80", false),
+    ];
+    for (bytes, is_text) in table {
+        let text = Text::from_bytes(rt.alloc(), bytes)?;
+        assert_eq!(rt; text.is_some(), is_text, "at {bytes:?}");
+        if let Some(text) = text {
+            assert_eq!(rt; text.copy()?.bytes(), bytes);
+        }
+    }
+    Ok(())
+}
+
+#[test]
+fn a_read_fails_where_it_was_told_to(rt: HostRuntime) -> Result<(), Fail> {
+    let mut files = MemFiles::new(rt.alloc());
+    files.add("a", b"old")?;
+    files.add("a", b"xyz")?;
+    files.fail_at(2)?;
+    let front = files.read("a", 2);
+    assert!(rt; matches!(&front, Ok(Some(bytes)) if bytes.as_slice() == b"xy".as_slice()));
+    let failed = files.read("a", 2);
+    assert!(rt; matches!(&failed, Err(FileStop::Failed)));
+    assert_eq!(rt; (files.reads(), files.writes(), files.faults()), (2, 0, 1));
+    let absent = files.read("b", 2);
+    assert!(rt; matches!(&absent, Ok(None)));
+    assert_eq!(rt; files.asked().len(), 3);
+    assert_eq!(rt; files.asked()[2].as_str(), "b");
+    Ok(())
+}
+
+#[test]
+fn writes_use_up_the_room(rt: HostRuntime) -> Result<(), Fail> {
+    let mut files = MemFiles::new(rt.alloc());
+    assert!(rt; files.write("a", b"") == Err(Failed));
+    files.room(1, 4)?;
+    files.add("c", b"old")?;
+    assert!(rt; files.write("ab", b"xyz") == Err(Failed));
+    assert!(rt; files.write("ab", b"xy") == Ok(()));
+    assert!(rt; files.write("c", b"z") == Err(Failed));
+    assert!(rt; files.content("ab") == Some(b"xy".as_slice()));
+    assert!(rt; files.content("c") == Some(b"old".as_slice()));
+    assert!(rt; files.content("a").is_none());
+    assert_eq!(rt; (files.reads(), files.writes(), files.faults()), (0, 4, 3));
+    Ok(())
+}
+
+#[test]
+fn puts_use_up_the_room(rt: HostRuntime) -> Result<(), Fail> {
+    let mut sink = MemSink::new(rt.alloc());
+    sink.room(1)?;
+    sink.fail_at(1)?;
+    assert!(rt; sink.put(b"a") == Err(Failed));
+    assert!(rt; sink.put(b"b") == Ok(()));
+    assert!(rt; sink.put(b"c") == Err(Failed));
+    assert!(rt; sink.put(b"") == Ok(()));
+    assert_eq!(rt; sink.bytes(), b"b".as_slice());
+    assert_eq!(rt; (sink.puts(), sink.faults()), (4, 2));
+    Ok(())
+}
+
+#[test]
+fn a_written_file_is_read(rt: HostRuntime) -> Result<(), Fail> {
+    let mut files = FsFiles::new(rt.alloc(), rt.clone()?);
+    assert!(rt; files.write("je_base_tests/deep/a", b"xyz") == Ok(()));
+    assert!(rt; files.write("je_base_tests/deep/a/b", b"xyz") == Err(Failed));
+    let front = files.read("je_base_tests/deep/a", 2);
+    assert!(rt; matches!(&front, Ok(Some(bytes)) if bytes.as_slice() == b"xy".as_slice()));
+    let whole = files.read("je_base_tests/deep/a", 100);
+    assert!(rt; matches!(&whole, Ok(Some(bytes)) if bytes.as_slice() == b"xyz".as_slice()));
+    let absent = files.read("je_base_tests/none", 100);
+    assert!(rt; matches!(&absent, Ok(None)));
+    let folder = files.read("je_base_tests/deep", 100);
+    assert!(rt; matches!(&folder, Err(FileStop::Failed)));
+    assert_eq!(rt; (files.reads(), files.writes(), files.faults()), (4, 2, 2));
+    fs::remove_dir_all(&rt, "je_base_tests")?;
+    Ok(())
+}
+
+#[test]
+fn streams_take_pieces(rt: HostRuntime) {
+    let mut output = StdSink::output(rt.stdout());
+    assert!(rt; output.put(b"one line\n") == Ok(()));
+    let mut error = StdSink::error(rt.stderr());
+    assert!(rt; error.put(b"") == Ok(()));
+    assert_eq!(rt; (output.puts(), output.faults()), (1, 0));
+    assert_eq!(rt; (error.puts(), error.faults()), (1, 0));
+}
