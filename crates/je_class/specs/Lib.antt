@@ -1,0 +1,6 @@
+pub mod Names
+pub mod Class
+pub mod Layout
+pub mod ClassBytes
+pub mod Parts
+pub mod Reading

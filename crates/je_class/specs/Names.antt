@@ -1,0 +1,10 @@
+-- Names as a class file spells them.
+use Rattle.std.specs.Prelude.{◌≢◌, ℕ, List, [], All}
+
+-- a byte of a class name: not `.`, `;` or `[`
+abbrev pub IsNameByte : ℕ → Type 0
+IsNameByte b = (b ≢ 46) × (b ≢ 59) × (b ≢ 91)
+
+-- a class or interface name in internal form (JVMS 4.2.1) that is no array's: not empty, without `.`, `;` and `[`
+abbrev pub IsClassName : List ℕ → Type 0
+IsClassName name = (name ≢ []) × All IsNameByte name
