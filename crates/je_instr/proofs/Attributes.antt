@@ -1,0 +1,49 @@
+-- The content of a Code attribute and the parts of it.
+use Rattle.std.proofs.Common.{◌≡◌, ℕ, List, [], ◌∷◌, ◌++◌, length, Some, sym, ap, subst, ◌∙◌, arith}
+use Rattle.je_class.specs.Layout.{u2, u4, table, attribute_layout}
+use Rattle.je_instr.specs.declared.instr.Instr.{Instr}
+use Rattle.je_instr.specs.declared.code.MethodCode.{MethodCode}
+use Rattle.je_instr.specs.Spelling.{code_bytes}
+use Rattle.je_instr.specs.Code.{Code, CodeBytes, handler_layout}
+use Rattle.je_instr.specs.Plain.{plain_code}
+use Rattle.je_instr.specs.Reading.{Head, head_of}
+use Rattle.je_instr.proofs.Spelled.{IsBytes, some_is}
+use Rattle.je_instr.proofs.Heads.{head_takes, head_again}
+
+abbrev pub head_in : Code → Head
+head_in c = record { max_stack = c.max_stack; max_locals = c.max_locals; code = c.code; tables = table handler_layout c.handlers ++ table attribute_layout c.attributes }
+
+pub head_is : (bytes : List ℕ) (c : Code) → CodeBytes bytes c → head_of bytes ≡ Some (head_in c)
+head_is bytes c is = head_again bytes (head_in c) (record { parts = is.layout; max_stack = is.max_stack; max_locals = is.max_locals; some = is.code.0; most = is.code.1 })
+
+-- the same bytes, the same code
+pub one_code : (bytes : List ℕ) (c d : Code) → CodeBytes bytes c → CodeBytes bytes d → c.code ≡ d.code
+one_code bytes c d ic id = ap (λ (h : Head). h.code) (some_is (head_in c) (head_in d) (sym (head_is bytes c ic) ∙ head_is bytes d id))
+
+abbrev pub no_tables : List ℕ
+no_tables = 0 ∷ 0 ∷ 0 ∷ 0 ∷ []
+
+pub is_plain : (bytes : List ℕ) (h : Head) (instrs : List Instr) → IsBytes bytes → head_of bytes ≡ Some h → h.tables ≡ no_tables → h.code ≡ code_bytes instrs
+    → CodeBytes bytes (record { max_stack = h.max_stack; max_locals = h.max_locals; code = code_bytes instrs; handlers = []; attributes = [] })
+is_plain bytes h instrs fits e tables code =
+    let is = head_takes bytes h fits e in
+    subst (λ (l : List ℕ). CodeBytes bytes (record { max_stack = h.max_stack; max_locals = h.max_locals; code = l; handlers = []; attributes = [] })) code
+    (record {
+      layout = is.parts ∙ ap (λ (t : List ℕ). u2 h.max_stack ++ (u2 h.max_locals ++ (u4 (length h.code) ++ (h.code ++ t)))) tables;
+      max_stack = is.max_stack;
+      max_locals = is.max_locals;
+      code = (is.some, is.most);
+      handlers = (omega arith, tt);
+      attributes = (omega arith, tt);
+    })
+
+-- what the bytes of a plain method's code are
+pub plain_head : (bytes : List ℕ) (m : MethodCode) → CodeBytes bytes (plain_code m) → head_of bytes ≡ Some (record { max_stack = m.max_stack; max_locals = m.max_locals; code = code_bytes m.instrs; tables = no_tables })
+plain_head bytes m is = head_is bytes (plain_code m) is
+
+abbrev made : ℕ → ℕ → List Instr → MethodCode
+made stack locals instrs = record { max_stack = stack; max_locals = locals; instrs = instrs }
+
+pub same_code : (m n : MethodCode) → m.max_stack ≡ n.max_stack → m.max_locals ≡ n.max_locals → m.instrs ≡ n.instrs → m ≡ n
+same_code m n stack locals instrs =
+    ap (λ (x : ℕ). made x m.max_locals m.instrs) stack ∙ ap (λ (x : ℕ). made n.max_stack x m.instrs) locals ∙ ap (λ (x : List Instr). made n.max_stack n.max_locals x) instrs

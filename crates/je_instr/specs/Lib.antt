@@ -1,0 +1,13 @@
+pub mod Content
+pub mod Value
+pub mod Heap
+pub mod Operation
+pub mod Outside
+pub mod Machine
+pub mod View
+pub mod Spelling
+pub mod Code
+pub mod ProgramOf
+pub mod Callee
+pub mod Plain
+pub mod Reading

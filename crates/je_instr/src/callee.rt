@@ -1,0 +1,62 @@
+//! Which methods an instruction may call (JVMS 6.5, invokestatic).
+
+ghost use Rattle.std.specs.Prelude.{◌≡◌, ℕ, ◌↔◌, List, Some, codes, IsTrue, IfSome, IfNone};
+ghost use Rattle.std.specs.Option.{option_map};
+ghost use Rattle.je_class.specs.Names.{IsClassName};
+ghost use Rattle.je_instr.specs.Content.{Member, Method, content_at};
+ghost use Rattle.je_instr.specs.Callee.{of_method};
+ghost use Rattle.je_instr.specs.ProgramOf.{IsCallable};
+
+use je_base::Text;
+use je_class::{Const, class_at, const_at, name_and_type_at};
+
+/// The name of constructors (JVMS 2.9.1).
+const CONSTRUCTOR: &[u8] = b"<init>";
+
+/// The name of class initialisers (JVMS 2.9.2).
+const INITIALISER: &[u8] = b"<clinit>";
+
+/// The descriptor of a method that takes nothing and answers nothing.
+const NO_ARGUMENTS: &[u8] = b"()V";
+
+fn is_class_name(bytes: &[u8]) -> bool
+    ensures { IsTrue result ↔ IsClassName bytes.now }
+{
+    !bytes.is_empty() && bytes.iter().all(|b| *b != b'.' && *b != b';' && *b != b'[')
+}
+
+fn is_callable(class: &[u8], name: &[u8], descriptor: &[u8]) -> bool
+    ensures { IsTrue result ↔ IsCallable class.now name.now descriptor.now }
+{
+    is_class_name(class) && name != CONSTRUCTOR && name != INITIALISER && descriptor == NO_ARGUMENTS
+}
+
+/// The class, the name and the descriptor of a method.
+fn method_at(consts: &[Const], index: u16) -> Option<(&Text, &Text, &Text)>
+    ensures { option_map (λ m. Member Method m.0.now m.1.now m.2.now) result ≡ of_method (content_at consts.now index) }
+{
+    let Some(Const::Method(class, member)) = const_at(consts, index) else {
+        return None;
+    };
+    let class = class_at(consts, *class)?;
+    let (name, descriptor) = name_and_type_at(consts, *member)?;
+    Some((class, name, descriptor))
+}
+
+/// The class and the name of the method that a constant lets an instruction call.
+///
+/// `None`: the constant is no method, or a method that no instruction may call: one of an array, a
+/// constructor, a class initialiser, or so far one with parameters or a result.
+pub fn called_method(consts: &[Const], index: u16) -> Option<(&Text, &Text)>
+    ensures found { IfSome result (λ m. (content_at consts.now index ≡ Some (Member Method m.0.now m.1.now (codes "()V")))
+        × IsCallable m.0.now m.1.now (codes "()V")) }
+    ensures none { IfNone result ((class name descriptor : List ℕ) → content_at consts.now index ≡ Some (Member Method class name descriptor)
+        → IsCallable class name descriptor → ⊥) }
+{
+    let (class, name, descriptor) = method_at(consts, index)?;
+    if is_callable(class.bytes(), name.bytes(), descriptor.bytes()) {
+        Some((class, name))
+    } else {
+        None
+    }
+}
