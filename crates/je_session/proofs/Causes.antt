@@ -1,0 +1,119 @@
+-- What excludes what among the causes of a stop.
+use Rattle.std.proofs.Common.{◌≡◌, ℕ, List, Option, Some, None, ◌⊎◌, inl, inr, sym, ap, subst, ◌∙◌}
+use Rattle.std.specs.Prelude.{IfSome, ⊤}
+use Rattle.std.specs.FinMap.{get}
+use Rattle.je_base.specs.Files.{Contents}
+use Rattle.je_class.specs.Class.{Class}
+use Rattle.je_session.specs.declared.plan.Script.{Script}
+use Rattle.je_session.specs.declared.status.Status.{Status}
+use Rattle.je_session.specs.declared.status.Status.TheVariants as status
+use Rattle.je_session.specs.Forms.{IsLine, IsScript, ClassForm, ReadsScript, ReadsClass, class_path}
+use Rattle.je_session.specs.Fulfils.{HasWritten}
+use Rattle.je_session.specs.Cause.{Refusal, NoScript, NotYetScript, NoClass, NotYetClass, Cause, NoLine, Refuses, ReadingFailed, WritingFailed, OutputFailed, NoMemory, IsRefusal, Explains, HasCause, Stopped, status_of}
+use Rattle.je_session.specs.declared.report.Stop.{Stop}
+use Rattle.je_session.proofs.ScriptLemmas.{one_script}
+
+one_path : (words : List (List ℕ)) (a b : List ℕ) → IsLine words a → IsLine words b → a ≡ b
+one_path words a b f g = let e = f.0 in let d = g.0 in cc
+
+one_found : (files : Contents) (path a b : List ℕ) → get files path ≡ Some a → get files path ≡ Some b → a ≡ b
+one_found files path a b f g = cc
+
+never_both : (files : Contents) (path a : List ℕ) → get files path ≡ Some a → get files path ≡ None → ⊥
+never_both files path a f g = cc
+
+found_at : (files : Contents) (a b text : List ℕ) → a ≡ b → get files b ≡ Some text → get files a ≡ Some text
+found_at files a b text e h = ap (get files) e ∙ h
+
+-- the words and the files name one script
+pub one_read : (words : List (List ℕ)) (files : Contents) (a b : Script) → ReadsScript words files a → ReadsScript words files b → a ≡ b
+one_read words files a b f g =
+    let path = one_path words f.path g.path f.line g.line in
+    let text = one_found files f.path f.text g.text f.found (found_at files f.path g.path g.text path g.found) in
+    one_script f.text a b f.is_script.form (subst (λ (t : List ℕ). IsScript t b) (sym text) g.is_script).form
+
+-- where script and class are read nothing is refused
+pub no_refusal : (words : List (List ℕ)) (files : Contents) (script : Script) (source : Class) → ReadsScript words files script → ReadsClass files script source
+    → (refusal : Refusal) → IsRefusal words files refusal → ⊥
+no_refusal words files script source reads finds (NoScript path) (line, none) =
+    never_both files path reads.text (found_at files path reads.path reads.text (one_path words path reads.path line reads.line) reads.found) none
+no_refusal words files script source reads finds NotYetScript (path, text, line, found, none) =
+    let same = one_found files path text reads.text found (found_at files path reads.path reads.text (one_path words path reads.path line reads.line) reads.found) in
+    none script (subst (λ (t : List ℕ). IsScript t script) (sym same) reads.is_script)
+no_refusal words files script source reads finds (NoClass name) (other, reads_other, name_is, none) =
+    let same = one_read words files script other reads reads_other in
+    let at : class_path name ≡ class_path script.class_name = ap class_path (sym (ap (λ (s : Script). s.class_name) same ∙ name_is)) in
+    never_both files (class_path name) finds.bytes (found_at files (class_path name) (class_path script.class_name) finds.bytes at finds.found) none
+no_refusal words files script source reads finds NotYetClass (other, bytes, reads_other, found, none) =
+    let same = one_read words files script other reads reads_other in
+    let at : class_path other.class_name ≡ class_path script.class_name = ap (λ (s : Script). class_path s.class_name) (sym same) in
+    let bytes_are = one_found files (class_path other.class_name) bytes finds.bytes found (found_at files (class_path other.class_name) (class_path script.class_name) finds.bytes at finds.found) in
+    let form : ClassForm other finds.bytes source = subst (λ (s : Script). ClassForm s finds.bytes source) same finds.is_class in
+    none source (subst (λ (b : List ℕ). ClassForm other b source) (sym bytes_are) form)
+
+-- a refusal is of words that are a line
+pub line_of_refusal : (words : List (List ℕ)) (files : Contents) (refusal : Refusal) → IsRefusal words files refusal → (path : List ℕ) × IsLine words path
+line_of_refusal words files (NoScript path) (line, none) = (path, line)
+line_of_refusal words files NotYetScript (path, text, line, found, none) = (path, line)
+line_of_refusal words files (NoClass name) (script, reads, name_is, none) = (reads.path, reads.line)
+line_of_refusal words files NotYetClass (script, bytes, reads, found, none) = (reads.path, reads.line)
+
+complete_by : (words : List (List ℕ)) (files : Contents) (files_fault out_fault : Type 0) (answer : Status) (script : Script) (source : Class) (cause : Cause)
+    → Explains words (Some files) files_fault out_fault cause → answer ≡ status_of cause → ReadsScript words files script → ReadsClass files script source → (files_fault → ⊥) → (out_fault → ⊥)
+    → (answer ≡ status.Done) ⊎ (answer ≡ status.Memory)
+complete_by words files ff of answer script source NoLine explains is reads finds no_files no_out = absurd (explains reads.path reads.line)
+complete_by words files ff of answer script source (Refuses refusal) explains is reads finds no_files no_out = absurd (no_refusal words files script source reads finds refusal explains)
+complete_by words files ff of answer script source (ReadingFailed path) explains is reads finds no_files no_out = absurd (no_files explains.0)
+complete_by words files ff of answer script source (WritingFailed path) explains is reads finds no_files no_out = absurd (no_files explains.0)
+complete_by words files ff of answer script source OutputFailed explains is reads finds no_files no_out = absurd (no_out explains.0)
+complete_by words files ff of answer script source NoMemory explains is reads finds no_files no_out = inr is
+
+pub complete_from : (words : List (List ℕ)) (files : Option Contents) (files_fault out_fault : Type 0) (answer : Status) (old new : Option (List ℕ))
+    → HasCause words files files_fault out_fault answer old new → (script : Script) (source : Class)
+    → IfSome files (λ before. ReadsScript words before script → ReadsClass before script source → (files_fault → ⊥) → (out_fault → ⊥) → (answer ≡ status.Done) ⊎ (answer ≡ status.Memory))
+complete_from words None ff of answer old new answers script source = tt
+complete_from words (Some files) ff of answer old new (inl done) script source = λ reads finds no_files no_out. inl done
+complete_from words (Some files) ff of answer old new (inr (cause, explains, is, front)) script source =
+    λ reads finds no_files no_out. complete_by words files ff of answer script source cause explains is reads finds no_files no_out
+
+not_done : (answer : Status) (cause : Cause) → answer ≡ status_of cause → answer ≡ status.Done → ⊥
+not_done answer NoLine is done = cc
+not_done answer (Refuses refusal) is done = cc
+not_done answer (ReadingFailed path) is done = cc
+not_done answer (WritingFailed path) is done = cc
+not_done answer OutputFailed is done = cc
+not_done answer NoMemory is done = cc
+
+-- with a line the answer is not Usage
+not_usage : (words : List (List ℕ)) (files : Option Contents) (files_fault out_fault : Type 0) (answer : Status) (cause : Cause) (path : List ℕ)
+    → IsLine words path → Explains words files files_fault out_fault cause → answer ≡ status_of cause → answer ≡ status.Usage → ⊥
+not_usage words files ff of answer NoLine path line explains is usage = explains path line
+not_usage words files ff of answer (Refuses refusal) path line explains is usage = cc
+not_usage words files ff of answer (ReadingFailed at) path line explains is usage = cc
+not_usage words files ff of answer (WritingFailed at) path line explains is usage = cc
+not_usage words files ff of answer OutputFailed path line explains is usage = cc
+not_usage words files ff of answer NoMemory path line explains is usage = cc
+
+pub no_usage : (words : List (List ℕ)) (files : Option Contents) (files_fault out_fault : Type 0) (answer : Status) (old new : Option (List ℕ))
+    → HasCause words files files_fault out_fault answer old new → (path : List ℕ) → IsLine words path → answer ≡ status.Usage → ⊥
+no_usage words files ff of answer old new (inl done) path line usage = cc
+no_usage words files ff of answer old new (inr (cause, explains, is, front)) path line usage = not_usage words files ff of answer cause path line explains is usage
+
+-- what is refused is not done, and its words are no faulty command line
+pub refuses_from : (words : List (List ℕ)) (files after : Option Contents) (files_fault out_fault : Type 0) (answer : Status) (old new : Option (List ℕ))
+    → HasCause words files files_fault out_fault answer old new → (answer ≡ status.Done → HasWritten words files after (λ _. ⊤))
+    → (refusal : Refusal) → IfSome files (λ before. IsRefusal words before refusal → (answer ≡ status.Done → ⊥) × (answer ≡ status.Usage → ⊥))
+refuses_from words None after ff of answer old new answers written refusal = tt
+refuses_from words (Some files) after ff of answer old new answers written refusal = λ is.
+    let line = line_of_refusal words files refusal is in (
+      λ done. let w = written done in no_refusal words files w.0.script w.0.source w.1.read.script w.1.read.class refusal is,
+      λ usage. no_usage words (Some files) ff of answer old new answers line.0 line.1 usage,
+    )
+
+-- a stop before the first output
+pub complete_stop : (words : List (List ℕ)) (files : Option Contents) (files_fault out_fault : Type 0) (answer : Status) (stop : Stop)
+    → Stopped words files files_fault ⊥ stop → answer ≡ stop.status → (script : Script) (source : Class)
+    → IfSome files (λ before. ReadsScript words before script → ReadsClass before script source → (files_fault → ⊥) → (out_fault → ⊥) → (answer ≡ status.Done) ⊎ (answer ≡ status.Memory))
+complete_stop words None ff of answer stop stopped is script source = tt
+complete_stop words (Some files) ff of answer stop (cause, explains, tells) is script source = λ reads finds no_files no_out.
+    complete_by words files ff ⊥ answer script source cause explains (is ∙ tells.status) reads finds no_files (λ h. h)

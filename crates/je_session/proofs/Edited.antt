@@ -1,0 +1,342 @@
+-- An edited class against its source.
+use Rattle.std.proofs.Common.{◌≡◌, ◌≢◌, ℕ, zero, suc, ◌+◌, ◌^◌, ◌<◌, List, [], ◌∷◌, ◌++◌, length, Option, Some, None, refl, sym, ap, subst, ◌∙◌, ◌⊎◌, inl, inr, arith, length-append}
+use Rattle.std.specs.Prelude.{slice_get, codes, if◌then◌else◌, map, count_by, is_some, IsSomeAnd, IsBitSet, option_and_then}
+use Rattle.std.specs.List.{AllByRecursion, AllZip}
+use Rattle.std.specs.Option.{option_map}
+use Rattle.std.proofs.lemmas.List.{append-nil, length-map}
+use Rattle.std.proofs.lemmas.Slice.Zip.{AllZip-long}
+use Rattle.std.proofs.lemmas.Option.{slice_get_past}
+use Rattle.je_class.specs.declared.constant.Const.{Const}
+use Rattle.je_class.specs.declared.member.Attribute.{Attribute}
+use Rattle.je_class.specs.declared.member.Member.{Member}
+use Rattle.je_class.specs.Class.{Class, IsNamed, text_at, changed_at, with_bytes, with_attribute, with_method_attribute}
+use Rattle.je_instr.specs.declared.code.MethodCode.{MethodCode}
+use Rattle.je_instr.specs.declared.instr.Instr.{Instr}
+use Rattle.je_instr.specs.declared.instr.Instr.TheVariants as instr
+use Rattle.je_instr.specs.Content.{Content, content_of, content_at}
+use Rattle.je_instr.specs.Operation.{Operation, Program}
+use Rattle.je_instr.specs.Code.{CodeBytes}
+use Rattle.je_instr.specs.Plain.{plain_code}
+use Rattle.je_instr.specs.Spelling.{code_bytes, instr_bytes, FitsInstr}
+use Rattle.je_instr.specs.ProgramOf.{Resolves, ProgramOf}
+use Rattle.je_session.specs.declared.plan.Fragment.{Fragment}
+use Rattle.je_session.specs.declared.plan.Fragment.TheVariants.{Empty, Proceed}
+use Rattle.je_session.specs.declared.plan.MethodPlan.{MethodPlan}
+use Rattle.je_session.specs.declared.plan.Rule.{Rule}
+use Rattle.je_session.specs.Chosen.{chosen_rule, matched}
+use Rattle.je_session.specs.Edit.{PlanAgrees, CountsMatched}
+use Rattle.je_session.specs.Editable.{IsEditable}
+use Rattle.je_session.specs.KeepsLines.{KeepsLines}
+use Rattle.je_session.specs.Kept.{IsPlanOf, IsPlanned, KeepsConsts, KeepsAttribute, HasTables, KeepsMethod, Kept, MethodForm}
+use Rattle.je_session.specs.Splice.{new_instrs, chosen_fragment}
+use Rattle.je_session.proofs.Choices.{chosen_fragment-Return}
+use Rattle.je_session.proofs.Forms.{EndsByReturn-resolved, IsCodeAt-one}
+use Rattle.je_session.proofs.IndexMap.{new_index, index_map}
+use Rattle.je_session.proofs.Places.{same_or_other, slice_get-changed_at, slice_get-changed_at_other, length-changed_at, one_place}
+use Rattle.je_session.proofs.Simulation.{Laws, agrees}
+use Rattle.je_session.proofs.Spliced.{new_instrs-unchosen, AllZip-new_instrs, AllByRecursion-new_instrs, length-code_bytes-new_instrs, count_by-cons}
+
+-- a method has at most one program
+abbrev pub OneProgram : Type 0
+OneProgram = (c : Class) (m : Member) (p q : Program) → ProgramOf c m p → ProgramOf c m q → p ≡ q
+
+some_one : {A : Type 0} (o : Option A) (x y : A) → o ≡ Some x → o ≡ Some y → y ≡ x
+some_one o x y e f = cc
+
+-- ---- counting
+
+is_some-option_map : {A B : Type 0} (f : A → B) (o : Option A) → is_some (option_map f o) ≡ is_some o
+is_some-option_map f None = refl
+is_some-option_map f (Some x) = refl
+
+matched-chosen : (rules : List Rule) (operations : List Operation)
+    → count_by is_some (map (chosen_fragment rules) operations) ≡ count_by (λ operation. is_some (chosen_rule rules operation)) operations
+matched-chosen rules [] = refl
+matched-chosen rules (o ∷ operations) =
+    count_by-cons is_some (chosen_fragment rules o) (map (chosen_fragment rules) operations)
+    ∙ ap (λ b. (if b then 1 else 0) + count_by is_some (map (chosen_fragment rules) operations)) (is_some-option_map (λ (rule : Rule). rule.fragment) (chosen_rule rules o))
+    ∙ ap (λ n. (if is_some (chosen_rule rules o) then 1 else 0) + n) (matched-chosen rules operations)
+    ∙ sym (count_by-cons (λ operation. is_some (chosen_rule rules operation)) o operations)
+
+-- ---- the length of the new code
+
+first_stays : (choice : Option Fragment) (chosen : List (Option Fragment)) (i : Instr) (instrs : List Instr)
+    → 0 < length (code_bytes (new_instrs chosen instrs)) → 0 < length (code_bytes (new_instrs (choice ∷ chosen) (i ∷ instrs)))
+first_stays None chosen i instrs rest = omega (arith, rest, length-append (instr_bytes i) (code_bytes (new_instrs chosen instrs)))
+first_stays (Some Empty) chosen i instrs rest = rest
+first_stays (Some Proceed) chosen i instrs rest = omega (arith, rest, length-append (instr_bytes i) (code_bytes (new_instrs chosen instrs)))
+
+-- the return at the end is not chosen
+return_stays : (consts : List Const) (rules : List Rule) (front : List Instr) (operations : List Operation)
+    → AllZip (Resolves consts) (front ++ instr.Return ∷ []) operations
+    → 0 < length (code_bytes (new_instrs (map (chosen_fragment rules) operations) (front ++ instr.Return ∷ [])))
+return_stays consts rules [] [] all = absurd all
+return_stays consts rules [] (o ∷ []) all = rw (all.0, chosen_fragment-Return rules) (omega arith)
+return_stays consts rules [] (o ∷ p ∷ operations) all = absurd all.1
+return_stays consts rules (i ∷ front) [] all = absurd all
+return_stays consts rules (i ∷ front) (o ∷ operations) all =
+    first_stays (chosen_fragment rules o) (map (chosen_fragment rules) operations) i (front ++ instr.Return ∷ []) (return_stays consts rules front operations all.1)
+
+-- ---- constants that stay
+
+KeepsConsts-same : (old new : Class) (plans : List MethodPlan) → new.consts ≡ old.consts → KeepsConsts old plans new
+KeepsConsts-same old new plans same = record {
+  added = ([], same ∙ sym (append-nil old.consts));
+  needed = λ k past within. absurd (omega (arith, ap length same));
+  new_content = λ k j content past here there. absurd (none k past (subst (λ l. content_at l k ≡ Some content) same here));
+}
+  where
+    none : (k : ℕ) → length old.consts < k → {content : Content} → content_at old.consts k ≡ Some content → ⊥
+    none zero past here = absurd (omega arith)
+    none (suc i) past here =
+        let missing = slice_get_past old.consts i (omega arith) in
+        let nothing : content_at old.consts (suc i) ≡ None = ap (option_and_then (content_of old.consts)) missing in
+        absurd cc
+
+module _ (c : Class) (plan : MethodPlan) (at : ℕ) (code : MethodCode) (chosen : List (Option Fragment)) (e : IsEditable c plan at code chosen) where
+  named : IsNamed c.consts plan.name (codes "()V") e.method
+  named = subst (λ o. IsSomeAnd o (IsNamed c.consts plan.name (codes "()V"))) e.here e.is_method.here
+
+  -- the program of the plan's method
+  abbrev source_program : Program
+  source_program = record { parameters = []; operations = e.choice.operations; handlers = [] }
+
+  abbrev of_source : ProgramOf c e.method source_program
+  of_source = record {
+    static = e.code_of.static;
+    descriptor = named.descriptor_is;
+    parameters = refl;
+    at = 0;
+    attribute = e.code_of.attribute;
+    is_code = IsCodeAt-one c.consts e.method.attributes e.code_of.attribute e.code_of.attributes e.code_of.is_code;
+    code = plain_code code;
+    instrs = code.instrs;
+    bytes = e.code_of.bytes;
+    spelled = refl;
+    fits = e.code_of.fits;
+    resolved = e.choice.resolved;
+    no_handlers = (refl, refl);
+  }
+
+  pub form_of_editable : MethodForm c plan.name
+  form_of_editable =
+      let ends = EndsByReturn-resolved c.consts e.returning.front e.choice.operations e.returning.no_return
+      (subst (λ l. AllZip (Resolves c.consts) l e.choice.operations) e.returning.last e.choice.resolved) in
+      record {
+        at = at;
+        is_method = e.is_method;
+        method = e.method;
+        here = e.here;
+        one_attribute = ap length e.code_of.attributes;
+        program = source_program;
+        of = of_source;
+        no_attributes = refl;
+        front = ends.front;
+        operations = ends.last;
+        no_return = ends.no_return;
+      }
+
+  count_is : count_by is_some chosen ≡ matched source_program plan.rules
+  count_is = ap (count_by is_some) e.choice.chosen_is ∙ matched-chosen plan.rules e.choice.operations
+
+  pub counts_matched : OneProgram → CountsMatched c plan (count_by is_some chosen)
+  counts_matched one at' m program is_plan here of =
+      let same_place : at ≡ at' = one_place c plan.name (codes "()V") at at' e.is_method is_plan in
+      let same_method : e.method ≡ m = some_one (slice_get c.methods at') m e.method here (subst (λ k. slice_get c.methods k ≡ Some e.method) same_place e.here) in
+      let same_program : source_program ≡ program = one c m source_program program (subst (λ n. ProgramOf c n source_program) same_method of_source) of in
+      count_is ∙ ap (λ p. matched p plan.rules) same_program
+
+  -- each instruction has its choice
+  pub one_choice_each : length chosen ≡ length code.instrs
+  one_choice_each = ap length e.choice.chosen_is ∙ length-map e.choice.operations (chosen_fragment plan.rules) ∙ AllZip-long (Resolves c.consts) code.instrs e.choice.operations e.choice.resolved
+
+  -- the new code is of a length that can be written
+  pub new_code_fits : (0 < length (code_bytes (new_instrs chosen code.instrs))) × (length (code_bytes (new_instrs chosen code.instrs)) < 2 ^ 16)
+  new_code_fits =
+      let longest = e.code_of.bytes.code.1 in
+      let shorter = length-code_bytes-new_instrs chosen code.instrs in
+      let stays = return_stays c.consts plan.rules e.returning.front e.choice.operations
+      (subst (λ l. AllZip (Resolves c.consts) l e.choice.operations) e.returning.last e.choice.resolved) in
+      (rw (e.choice.chosen_is, e.returning.last) stays, omega arith)
+
+-- The method at the place, once it is edited: its code is the old one's, spliced.
+pub record IsNewMethod (attribute : Attribute) (code : MethodCode) (chosen : List (Option Fragment)) (old new : Member) : Type 0 where
+  pub access : new.access ≡ old.access
+  pub name : new.name ≡ old.name
+  pub descriptor : new.descriptor ≡ old.descriptor
+  pub bytes : List ℕ
+  pub attributes : new.attributes ≡ with_bytes bytes attribute ∷ []
+  pub new_code : MethodCode
+  pub spelled : CodeBytes bytes (plain_code new_code)
+  pub instrs : new_code.instrs ≡ new_instrs chosen code.instrs
+  pub max_stack : new_code.max_stack ≡ code.max_stack
+  pub max_locals : new_code.max_locals ≡ code.max_locals
+  pub unchosen : count_by is_some chosen ≡ 0 → new ≡ old
+
+-- The methods, of which the one at the place is another.
+pub record AreNewMethods (at : ℕ) (new : Member) (olds news : List Member) : Type 0 where
+  pub count : length news ≡ length olds
+  pub here : slice_get news at ≡ Some new
+  pub others : (k : ℕ) → k ≢ at → slice_get news k ≡ slice_get olds k
+
+module _ (one : OneProgram) (c : Class) (plan : MethodPlan) (at : ℕ) (code : MethodCode) (chosen : List (Option Fragment)) (e : IsEditable c plan at code chosen)
+    (new : Member) (news : List Member) (is_new : IsNewMethod e.code_of.attribute code chosen e.method new) (are_new : AreNewMethods at new c.methods news) where
+  abbrev edited : Class
+  edited = record c { methods = news }
+
+  abbrev new_program : Program
+  new_program = record { parameters = []; operations = new_instrs chosen e.choice.operations; handlers = [] }
+
+  of_edited : ProgramOf edited new new_program
+  of_edited = record {
+    static = subst (λ a. IsBitSet a 3) (sym is_new.access) e.code_of.static;
+    descriptor = ap (text_at c.consts) is_new.descriptor ∙ (named c plan at code chosen e).descriptor_is;
+    parameters = refl;
+    at = 0;
+    attribute = with_bytes is_new.bytes e.code_of.attribute;
+    is_code = IsCodeAt-one c.consts new.attributes (with_bytes is_new.bytes e.code_of.attribute) is_new.attributes e.code_of.is_code;
+    code = plain_code is_new.new_code;
+    instrs = is_new.new_code.instrs;
+    bytes = is_new.spelled;
+    spelled = refl;
+    fits = subst (AllByRecursion FitsInstr) (sym is_new.instrs) (AllByRecursion-new_instrs FitsInstr chosen code.instrs e.code_of.fits);
+    resolved = subst (λ l. AllZip (Resolves c.consts) l (new_instrs chosen e.choice.operations)) (sym is_new.instrs) (AllZip-new_instrs (Resolves c.consts) chosen code.instrs e.choice.operations e.choice.resolved);
+    no_handlers = (refl, refl);
+  }
+
+  pub plan_agrees : Laws → PlanAgrees c edited plan
+  unfolding of_edited of_source
+  plan_agrees laws = record {
+    at = at;
+    is_planned = e.is_method;
+    source_method = e.method;
+    in_source = e.here;
+    source_program = source_program c plan at code chosen e;
+    of_source = of_source c plan at code chosen e;
+    edited_method = new;
+    in_edited = are_new.here;
+    edited_program = new_program;
+    of_edited = of_edited;
+    agrees = agrees laws (source_program c plan at code chosen e) new_program plan refl refl refl (ap (λ l. new_instrs l e.choice.operations) e.choice.chosen_is);
+    max_stack = is_new.max_stack;
+    max_locals = is_new.max_locals;
+  }
+
+  -- neither code has tables
+  pub keeps_lines : Laws → KeepsLines c edited plan
+  unfolding plan_agrees of_edited
+  keeps_lines laws = record {
+    method = plan_agrees laws;
+    to = λ i. new_index plan.rules i e.choice.operations;
+    is_map = index_map (source_program c plan at code chosen e) new_program plan.rules (ap (λ l. new_instrs l e.choice.operations) e.choice.chosen_is);
+    old_tables = record { lines = []; variables = []; types = [] };
+    of_source = record { lines = ([], refl, refl); variables = ([], refl, refl); types = ([], refl, refl) };
+    of_edited = record { lines = refl; variables = refl; types = refl };
+  }
+
+  tables : HasTables c.consts new
+  tables = record {
+    at = 0;
+    attribute = with_bytes is_new.bytes e.code_of.attribute;
+    is_code = IsCodeAt-one c.consts new.attributes (with_bytes is_new.bytes e.code_of.attribute) is_new.attributes e.code_of.is_code;
+    code = plain_code is_new.new_code;
+    bytes = is_new.spelled;
+    none = refl;
+  }
+
+  keeps_attributes : AllZip (KeepsAttribute c.consts) e.method.attributes new.attributes
+  keeps_attributes = rw (e.code_of.attributes, is_new.attributes) (inr (e.code_of.is_code, refl), tt)
+
+  plan_is : (k : ℕ) (plan' : MethodPlan) → slice_get (plan ∷ []) k ≡ Some plan' → plan' ≡ plan
+  plan_is zero plan' here = cc
+  plan_is (suc k) plan' here = absurd cc
+
+  place_is : (at' : ℕ) → IsPlanned c (plan ∷ []) at' → at' ≡ at
+  place_is at' (plan', k, here, is_plan) =
+      one_place c plan.name (codes "()V") at' at (subst (λ (p : MethodPlan). IsPlanOf c at' p) (plan_is k plan' here) is_plan) e.is_method
+
+  -- the method at the place
+  keeps_here : (m n : Member) → m ≡ e.method → n ≡ new → KeepsMethod c (plan ∷ []) edited at m n
+  keeps_here m n m_is n_is = rw (m_is, n_is) (record {
+    unplanned = λ no. absurd (no (plan, 0, refl, e.is_method));
+    planned = λ is. record { access = is_new.access; name = is_new.name; descriptor = is_new.descriptor; attributes = keeps_attributes; tables = tables };
+    unchosen = λ k plan' program here is_plan of none.
+        is_new.unchosen (counts_matched c plan at code chosen e one at e.method program e.is_method e.here of ∙ ap (λ (p : MethodPlan). matched program p.rules) (sym (plan_is k plan' here)) ∙ none);
+  })
+
+  keeps_method : (at' : ℕ) (m n : Member) → slice_get c.methods at' ≡ Some m → slice_get news at' ≡ Some n → (at' ≡ at) ⊎ (at' ≢ at) → KeepsMethod c (plan ∷ []) edited at' m n
+  keeps_method at' m n old_here new_here (inl same) =
+      let m_is = some_one (slice_get c.methods at) m e.method (subst (λ k. slice_get c.methods k ≡ Some m) same old_here) e.here in
+      let n_is = some_one (slice_get news at) n new (subst (λ k. slice_get news k ≡ Some n) same new_here) are_new.here in
+      subst (λ k. KeepsMethod c (plan ∷ []) edited k m n) (sym same) (keeps_here m n (sym m_is) (sym n_is))
+  keeps_method at' m n old_here new_here (inr other) =
+      let same : n ≡ m = some_one (slice_get c.methods at') m n old_here (sym (are_new.others at' other) ∙ new_here) in
+      record {
+        unplanned = λ no. same;
+        planned = λ is. absurd (other (place_is at' is));
+        unchosen = λ k plan' program here is_plan of none. same;
+      }
+
+  pub kept : Kept c (plan ∷ []) edited
+  kept = record {
+    minor = refl;
+    major = refl;
+    consts = KeepsConsts-same c edited (plan ∷ []) refl;
+    access = refl;
+    this_class = refl;
+    super_class = refl;
+    interfaces = refl;
+    fields = refl;
+    count = are_new.count;
+    methods = λ at' m n old_here new_here. keeps_method at' m n old_here new_here (same_or_other at' at);
+    attributes = refl;
+  }
+
+-- a class that nothing is chosen in
+pub unchosen_stays : (one : OneProgram) (laws : Laws) (c : Class) (plan : MethodPlan) (at : ℕ) (code : MethodCode) (chosen : List (Option Fragment))
+    → IsEditable c plan at code chosen → count_by is_some chosen ≡ 0 → Kept c (plan ∷ []) c × PlanAgrees c c plan × KeepsLines c c plan
+unchosen_stays one laws c plan at code chosen e none =
+    let is_new : IsNewMethod e.code_of.attribute code chosen e.method e.method = record {
+      access = refl;
+      name = refl;
+      descriptor = refl;
+      bytes = e.code_of.attribute.bytes;
+      attributes = e.code_of.attributes;
+      new_code = code;
+      spelled = e.code_of.bytes;
+      instrs = sym (new_instrs-unchosen chosen code.instrs none);
+      max_stack = refl;
+      max_locals = refl;
+      unchosen = λ _. refl;
+    } in
+    let are_new : AreNewMethods at e.method c.methods c.methods = record { count = refl; here = e.here; others = λ k other. refl } in
+    (kept one c plan at code chosen e e.method c.methods is_new are_new, plan_agrees one c plan at code chosen e e.method c.methods is_new are_new laws, keeps_lines one c plan at code chosen e e.method c.methods is_new are_new laws)
+
+-- a class in which the code of the plan's method is spliced
+pub spliced_agrees : (one : OneProgram) (laws : Laws) (c : Class) (plan : MethodPlan) (at : ℕ) (code : MethodCode) (chosen : List (Option Fragment))
+    → IsEditable c plan at code chosen → (count_by is_some chosen ≡ 0 → ⊥) → (bytes : List ℕ) (new_code : MethodCode) → CodeBytes bytes (plain_code new_code)
+    → new_code.instrs ≡ new_instrs chosen code.instrs → new_code.max_stack ≡ code.max_stack → new_code.max_locals ≡ code.max_locals
+    → Kept c (plan ∷ []) (with_method_attribute at 0 bytes c) × PlanAgrees c (with_method_attribute at 0 bytes c) plan
+    × KeepsLines c (with_method_attribute at 0 bytes c) plan
+spliced_agrees one laws c plan at code chosen e some bytes new_code spelled instrs max_stack max_locals =
+    let new = with_attribute 0 bytes e.method in
+    let news = changed_at at (with_attribute 0 bytes) c.methods in
+    let is_new : IsNewMethod e.code_of.attribute code chosen e.method new = record {
+      access = refl;
+      name = refl;
+      descriptor = refl;
+      bytes = bytes;
+      attributes = ap (changed_at 0 (with_bytes bytes)) e.code_of.attributes;
+      new_code = new_code;
+      spelled = spelled;
+      instrs = instrs;
+      max_stack = max_stack;
+      max_locals = max_locals;
+      unchosen = λ none. absurd (some none);
+    } in
+    let are_new : AreNewMethods at new c.methods news = record {
+      count = length-changed_at at (with_attribute 0 bytes) c.methods;
+      here = slice_get-changed_at at (with_attribute 0 bytes) c.methods e.method e.here;
+      others = λ k other. slice_get-changed_at_other at k (with_attribute 0 bytes) c.methods other;
+    } in
+    (kept one c plan at code chosen e new news is_new are_new, plan_agrees one c plan at code chosen e new news is_new are_new laws, keeps_lines one c plan at code chosen e new news is_new are_new laws)

@@ -1,0 +1,13 @@
+pub mod Steps
+pub mod TokenLemmas
+pub mod NameLemmas
+pub mod ScriptLemmas
+pub mod Choices
+pub mod Edited
+pub mod Forms
+pub mod Places
+pub mod Simulation
+pub mod Spliced
+pub mod Reserved
+pub mod Causes
+pub mod IndexMap

@@ -1,0 +1,114 @@
+-- What an edit of a class leaves as it was.
+use Rattle.std.specs.Prelude.{◌≡◌, ◌≢◌, ℕ, ◌<◌, ◌≤◌, ◌⊎◌, List, [], ◌∷◌, ◌++◌, length, codes, Some, slice_get}
+use Rattle.std.specs.List.{AllByRecursion, AllZip}
+use Rattle.je_class.specs.declared.constant.Const.{Const}
+use Rattle.je_class.specs.declared.constant.Const.TheVariants as const
+use Rattle.je_class.specs.declared.member.Attribute.{Attribute}
+use Rattle.je_class.specs.declared.member.Member.{Member}
+use Rattle.je_class.specs.Class.{Class, const_at, IsMethodAt}
+use Rattle.je_instr.specs.declared.instr.Instr.{Instr}
+use Rattle.je_instr.specs.declared.instr.Instr.TheVariants as instr
+use Rattle.je_instr.specs.Content.{Content, content_at}
+use Rattle.je_instr.specs.Operation.{Operation, Return, Program}
+use Rattle.je_instr.specs.Code.{Code, CodeBytes}
+use Rattle.je_instr.specs.ProgramOf.{IsCode, IsCodeAt, ProgramOf}
+use Rattle.je_session.specs.declared.plan.MethodPlan.{MethodPlan}
+use Rattle.je_session.specs.Chosen.{matched}
+
+-- the plan is for the method at this place
+abbrev pub IsPlanOf : Class → ℕ → MethodPlan → Type 0
+IsPlanOf c at plan = IsMethodAt c plan.name (codes "()V") at
+
+abbrev pub IsPlanned : Class → List MethodPlan → ℕ → Type 0
+IsPlanned c plans at = (plan : MethodPlan) × (k : ℕ) × (slice_get plans k ≡ Some plan) × IsPlanOf c at plan
+
+-- ---- constants
+
+-- the instruction names the constant of this index
+abbrev pub NamesConst : ℕ → Instr → Type 0
+NamesConst k (instr.InvokeStatic index) = index ≡ k
+NamesConst k _ = ⊥
+
+-- the constant names that of this index
+abbrev pub RefersTo : Const → ℕ → Type 0
+RefersTo (const.Utf8 text) k = ⊥
+RefersTo (const.Class name) k = name ≡ k
+RefersTo (const.Method class member) k = (class ≡ k) ⊎ (member ≡ k)
+RefersTo (const.NameAndType name descriptor) k = (name ≡ k) ⊎ (descriptor ≡ k)
+
+-- The instructions name the constant, or name one behind the first `before` that leads to it through such ones.
+pub data IsNeeded (consts : List Const) (before : ℕ) (instrs : List Instr) : ℕ → Type 0 where
+  by_code : (k at : ℕ) (i : Instr) → slice_get instrs at ≡ Some i → NamesConst k i → IsNeeded consts before instrs k
+  by_const : (j k : ℕ) (c : Const) → before < j → IsNeeded consts before instrs j → const_at consts j ≡ Some c → RefersTo c k → IsNeeded consts before instrs k
+
+-- Constants stay at their indexes. Each one that is added is needed by the code of a planned method, and says what no
+-- other says.
+pub record KeepsConsts (old : Class) (plans : List MethodPlan) (new : Class) : Type 0 where
+  pub added : (more : List Const) × (new.consts ≡ old.consts ++ more)
+  pub needed : (k : ℕ) → length old.consts < k → k ≤ length new.consts
+      → (at : ℕ) × IsPlanned old plans at
+      × (m : Member) × (slice_get new.methods at ≡ Some m)
+      × (program : Program) × (p : ProgramOf new m program) × IsNeeded new.consts (length old.consts) p.instrs k
+  pub new_content : (k j : ℕ) (content : Content) → length old.consts < k
+      → content_at new.consts k ≡ Some content → content_at new.consts j ≡ Some content → j ≡ k
+
+-- ---- methods
+
+-- an attribute is as it was, but for the bytes of a Code
+abbrev pub KeepsAttribute : List Const → Attribute → Attribute → Type 0
+KeepsAttribute consts old new = (new ≡ old) ⊎ (IsCode consts old × (new.name ≡ old.name))
+
+-- The Code has the tables of the old one, of which there are none so far. Below version 50 it has no StackMapTable.
+pub record HasTables (consts : List Const) (m : Member) : Type 0 where
+  pub at : ℕ
+  pub attribute : Attribute
+  pub is_code : IsCodeAt consts m.attributes at attribute
+  pub code : Code
+  pub bytes : CodeBytes attribute.bytes code
+  pub none : code.attributes ≡ []
+
+-- a planned method: all but the bytes of its Code is as it was
+pub record KeepsButCode (old new : Class) (m n : Member) : Type 0 where
+  pub access : n.access ≡ m.access
+  pub name : n.name ≡ m.name
+  pub descriptor : n.descriptor ≡ m.descriptor
+  pub attributes : AllZip (KeepsAttribute old.consts) m.attributes n.attributes
+  pub tables : HasTables new.consts n
+
+-- A method without a plan is as it was, and so is one whose plan chooses nothing.
+pub record KeepsMethod (old : Class) (plans : List MethodPlan) (new : Class) (at : ℕ) (m n : Member) : Type 0 where
+  pub unplanned : (IsPlanned old plans at → ⊥) → n ≡ m
+  pub planned : IsPlanned old plans at → KeepsButCode old new m n
+  pub unchosen : (k : ℕ) (plan : MethodPlan) (program : Program) → slice_get plans k ≡ Some plan → IsPlanOf old at plan
+      → ProgramOf old m program → matched program plan.rules ≡ 0 → n ≡ m
+
+-- All but the planned methods' code is as it was.
+pub record Kept (old : Class) (plans : List MethodPlan) (new : Class) : Type 0 where
+  pub minor : new.minor ≡ old.minor
+  pub major : new.major ≡ old.major
+  pub consts : KeepsConsts old plans new
+  pub access : new.access ≡ old.access
+  pub this_class : new.this_class ≡ old.this_class
+  pub super_class : new.super_class ≡ old.super_class
+  pub interfaces : new.interfaces ≡ old.interfaces
+  pub fields : new.fields ≡ old.fields
+  pub count : length new.methods ≡ length old.methods
+  pub methods : (at : ℕ) (m n : Member) → slice_get old.methods at ≡ Some m → slice_get new.methods at ≡ Some n → KeepsMethod old plans new at m n
+  pub attributes : new.attributes ≡ old.attributes
+
+-- ---- the methods that can be edited so far
+
+-- A method of this name that is static, has one attribute, a Code without handlers and attributes, and whose instructions
+-- are any number that do nothing or call, and then one that returns.
+pub record MethodForm (c : Class) (name : List ℕ) : Type 0 where
+  pub at : ℕ
+  pub is_method : IsMethodAt c name (codes "()V") at
+  pub method : Member
+  pub here : slice_get c.methods at ≡ Some method
+  pub one_attribute : length method.attributes ≡ 1
+  pub program : Program
+  pub of : ProgramOf c method program
+  pub no_attributes : of.code.attributes ≡ []
+  pub front : List Operation
+  pub operations : program.operations ≡ front ++ Return ∷ []
+  pub no_return : AllByRecursion (λ operation. operation ≢ Return) front

@@ -1,0 +1,44 @@
+-- A method's instructions, of which some give way to blocks.
+use Rattle.std.specs.Prelude.{◌≡◌, List, [], ◌∷◌, ◌++◌, Option, Some, None, map}
+use Rattle.std.specs.List.{AllZip}
+use Rattle.std.specs.Option.{option_map}
+use Rattle.je_class.specs.declared.constant.Const.{Const}
+use Rattle.je_instr.specs.declared.instr.Instr.{Instr}
+use Rattle.je_instr.specs.Operation.{Operation}
+use Rattle.je_instr.specs.ProgramOf.{Resolves}
+use Rattle.je_session.specs.declared.plan.Fragment.{Fragment}
+use Rattle.je_session.specs.declared.plan.Fragment.TheVariants.{Empty, Proceed}
+use Rattle.je_session.specs.declared.plan.Rule.{Rule}
+use Rattle.je_session.specs.Chosen.{chosen_rule}
+
+-- An instruction with a block gives way to it. One without a block stays.
+abbrev pub spliced : {A : Type 0} → List (Option (List A)) → List A → List A
+spliced [] xs = xs
+spliced (place ∷ places) [] = []
+spliced (None ∷ places) (x ∷ xs) = x ∷ spliced places xs
+spliced (Some block ∷ places) (x ∷ xs) = block ++ spliced places xs
+
+-- the instructions that do what a fragment says in the place of one
+abbrev pub block_of : {A : Type 0} → A → Fragment → List A
+block_of x Empty = []
+block_of x Proceed = x ∷ []
+
+-- the blocks of the instructions for which a fragment is chosen
+abbrev pub blocks_of : {A : Type 0} → List (Option Fragment) → List A → List (Option (List A))
+blocks_of [] xs = []
+blocks_of (chosen ∷ rest) [] = []
+blocks_of (chosen ∷ rest) (x ∷ xs) = option_map (block_of x) chosen ∷ blocks_of rest xs
+
+-- the instructions, with what does its fragment in the place of each one that has one
+abbrev pub new_instrs : {A : Type 0} → List (Option Fragment) → List A → List A
+new_instrs chosen xs = spliced (blocks_of chosen xs) xs
+
+-- the fragment that the first rule that fits an instruction has
+abbrev pub chosen_fragment : List Rule → Operation → Option Fragment
+chosen_fragment rules operation = option_map (λ rule. rule.fragment) (chosen_rule rules operation)
+
+-- These are the fragments that the rules choose for what the instructions do.
+pub record AreChosen (consts : List Const) (rules : List Rule) (instrs : List Instr) (chosen : List (Option Fragment)) : Type 0 where
+  pub operations : List Operation
+  pub resolved : AllZip (Resolves consts) instrs operations
+  pub chosen_is : chosen ≡ map (chosen_fragment rules) operations

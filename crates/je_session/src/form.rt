@@ -1,0 +1,97 @@
+//! The methods that can be edited so far.
+
+ghost use Rattle.std.specs.Prelude.{◌≡◌, ◌↔◌, IsTrue, IfOk, IfErr, MatchResult};
+ghost use Rattle.je_instr.specs.declared.code.MethodCode.{MethodCode};
+ghost use Rattle.je_instr.specs.ProgramOf.{IsCode};
+ghost use Rattle.je_session.specs.declared.stop.EditStop.TheVariants as stops;
+ghost use Rattle.je_session.specs.Editable.{IsCodeOf, IsReturning, IsEditable};
+ghost use Rattle.je_session.specs.Kept.{MethodForm};
+
+use crate::choose::choose;
+use crate::plan::{Fragment, MethodPlan};
+use crate::stop::EditStop;
+use je_class::{Attribute, ClassFile, Const, Member, text_at};
+use je_instr::{Instr, MethodCode, read_code};
+use sqlite_items::Items;
+use std::alloc::Global;
+
+/// The access flag of a method that needs no object (JVMS 4.6).
+const ACC_STATIC: u16 = 8;
+
+/// The name of the attribute that has a method's code (JVMS 4.7.3).
+const CODE: &[u8] = b"Code";
+
+/// A method that can be edited, and what a plan chooses in it.
+#[derive(Drop)]
+pub struct Editable {
+    /// The method's place among those of its class.
+    pub at: usize,
+    pub code: MethodCode,
+    /// The fragment that each instruction gives way to.
+    pub chosen: Items<Option<Fragment>>,
+}
+
+fn is_code(consts: &[Const], attribute: &Attribute) -> bool
+    ensures { IsTrue result ↔ IsCode consts.now attribute.now }
+{
+    match text_at(consts, attribute.name) {
+        Some(name) => name.bytes() == CODE,
+        None => false,
+    }
+}
+
+/// The code of a static method with one attribute, a Code without handlers and attributes. `NotYet`: the method is not
+/// of this form.
+fn code_of(alloc: Global, consts: &[Const], method: &Member) -> Result<MethodCode, EditStop>
+    ensures found { IfOk result (IsCodeOf consts.now method.now) }
+    ensures only { (code : MethodCode) → IsCodeOf consts.now method.now code
+        → MatchResult result (λ found. found ≡ code) (λ e. e ≡ stops.Memory) }
+{
+    if method.access & ACC_STATIC == 0 {
+        return Err(EditStop::NotYet);
+    }
+    let [attribute] = method.attributes.as_slice() else {
+        return Err(EditStop::NotYet);
+    };
+    if !is_code(consts, attribute) {
+        return Err(EditStop::NotYet);
+    }
+    Ok(read_code(alloc, attribute.bytes.as_slice())?)
+}
+
+/// Whether the last instruction returns, and no other one.
+fn is_returning(instrs: &[Instr]) -> bool
+    ensures { IsTrue result ↔ IsReturning instrs.now }
+{
+    match instrs.split_last() {
+        Some((last, front)) => *last == Instr::Return
+            && front.iter().all(|instr| *instr != Instr::Return),
+        None => false,
+    }
+}
+
+/// The method of a plan, and what the plan chooses in it. `NotYet`: the method is not there, or not of the form that
+/// can be edited.
+pub fn find_editable(
+    alloc: Global,
+    class: &ClassFile,
+    plan: &MethodPlan,
+) -> Result<Editable, EditStop>
+    ensures found { IfOk result (λ e. IsEditable class.now plan.now e.at e.code e.chosen) }
+    ensures not_yet { IfErr result (λ e. e ≡ stops.NotYet → MethodForm class.now plan.now.name → ⊥) }
+{
+    let Some(at) = class.find_method(&plan.name) else {
+        return Err(EditStop::NotYet);
+    };
+    let code = code_of(alloc, class.consts(), &class.methods()[at])?;
+    let chosen = choose(
+        alloc,
+        class.consts(),
+        code.instrs.as_slice(),
+        plan.rules.as_slice(),
+    )?;
+    if !is_returning(code.instrs.as_slice()) {
+        return Err(EditStop::NotYet);
+    }
+    Ok(Editable { at, code, chosen })
+}

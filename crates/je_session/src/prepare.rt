@@ -1,0 +1,102 @@
+//! All that a run does before its first output: it reads, edits, and makes the bytes and the lines.
+
+ghost use Rattle.std.specs.Prelude.{◌≡◌, ℕ, ◌≤◌, List, vec_len, IfOk, IfErr, IfSome, OnOk, string_bytes};
+ghost use Rattle.je_base.specs.Count.{HasFault};
+ghost use Rattle.je_session.specs.Texts.{texts};
+ghost use Rattle.je_session.specs.Forms.{IsLine, Holds, ReadsScript, class_path};
+ghost use Rattle.je_session.specs.Edit.{HasAsciiNames};
+ghost use Rattle.je_session.specs.Fulfils.{IsPrepared};
+ghost use Rattle.je_session.specs.Lines.{HasLines};
+ghost use Rattle.je_session.specs.Cause.{IsWrittenPath, Stopped, StoppedAtClass};
+
+use crate::class_edit::edit_class;
+use crate::lines::{class_file, shown};
+use crate::made::{Made, make};
+use crate::parse::parse_script;
+use crate::plan::Script;
+use crate::reading::{NotRead, read_within};
+use crate::report::Stop;
+use crate::status::Status;
+use crate::stop::EditStop;
+use crate::tokens::ScriptStop;
+use crate::words::script_path;
+use je_base::Files;
+use je_class::MOST_BYTES;
+use std::alloc::Global;
+
+/// Scripts longer than this are not read: bytes.
+const MOST_SCRIPT_BYTES: usize = 4_194_304;
+
+/// Reads the script and its class, edits the class, and makes what is put and written.
+pub fn prepare<F: Files>(alloc: Global, words: &[String], files: &mut F) -> Result<Made, Stop>
+    ensures made { IfOk result (λ made. IfSome (F.contents files.old) (λ before. IsPrepared (texts words.now) before (string_bytes made.path) made.bytes.items)) }
+    ensures stopped { IfErr result (Stopped (texts words.now) (F.contents files.old) (HasFault (F.faults files.old) (F.faults files.new)) ⊥) }
+    ensures line { OnOk result ((path : List ℕ) × IsLine (texts words.now) path) }
+    ensures no_line { IfErr result (λ stop. ((path : List ℕ) → IsLine (texts words.now) path → ⊥) → stop.status ≡ Status.Usage) }
+    ensures place { IfOk result (λ made. IsWrittenPath (texts words.now) (F.contents files.old) (string_bytes made.path)) }
+    ensures lines { IfOk result HasLines }
+    ensures contents { F.contents files.new ≡ F.contents files.old }
+    ensures writes { F.writes files.new ≡ F.writes files.old }
+    ensures faults { F.faults files.old ≤ F.faults files.new }
+{
+    let script = read_script(alloc, words, files)?;
+    let bytes = read_class_bytes(alloc, &script, files)?;
+    match edit_class(alloc, &script, &bytes) {
+        Ok((class, matched)) => make(alloc, &script, &class, matched),
+        Err(EditStop::NotYet) => Err(Stop::not_yet_class()),
+        Err(EditStop::Memory) => Err(Stop::memory()),
+    }
+}
+
+// The script that the words name.
+fn read_script<F: Files>(alloc: Global, words: &[String], files: &mut F) -> Result<Script, Stop>
+    ensures found { IfOk result (λ script. IfSome (F.contents files.old) (λ before. ReadsScript (texts words.now) before script)) }
+    ensures line { OnOk result ((path : List ℕ) × IsLine (texts words.now) path) }
+    ensures no_line { IfErr result (λ stop. ((path : List ℕ) → IsLine (texts words.now) path → ⊥) → stop.status ≡ Status.Usage) }
+    ensures names { IfOk result HasAsciiNames }
+    ensures stopped { IfErr result (Stopped (texts words.now) (F.contents files.old) (HasFault (F.faults files.old) (F.faults files.new)) ⊥) }
+    ensures contents { F.contents files.new ≡ F.contents files.old }
+    ensures writes { F.writes files.new ≡ F.writes files.old }
+    ensures faults { F.faults files.old ≤ F.faults files.new }
+{
+    let Some(path) = script_path(words) else {
+        return Err(Stop::usage());
+    };
+    let text = match read_within(files, path, MOST_SCRIPT_BYTES) {
+        Ok(text) => text,
+        Err(NotRead::Missing) => return Err(Stop::no_script(alloc, path)),
+        Err(NotRead::TooLong) => return Err(Stop::not_yet_script()),
+        Err(NotRead::Failed) => return Err(Stop::reading(alloc, path)),
+        Err(NotRead::Memory) => return Err(Stop::memory()),
+    };
+    match parse_script(alloc, &text) {
+        Ok(script) => Ok(script),
+        Err(ScriptStop::NotYet) => Err(Stop::not_yet_script()),
+        Err(ScriptStop::Memory) => Err(Stop::memory()),
+    }
+}
+
+// The bytes of the script's class.
+fn read_class_bytes<F: Files>(
+    alloc: Global,
+    script: &Script,
+    files: &mut F,
+) -> Result<Vec<u8>, Stop>
+    requires { HasAsciiNames script.now }
+    ensures found { IfOk result (λ bytes. Holds (F.contents files.old) (class_path script.now.class_name) bytes.items) }
+    ensures within { IfOk result (λ bytes. vec_len bytes ≤ MOST_BYTES) }
+    ensures stopped { IfErr result (StoppedAtClass script.now (F.contents files.old) (HasFault (F.faults files.old) (F.faults files.new))) }
+    ensures contents { F.contents files.new ≡ F.contents files.old }
+    ensures writes { F.writes files.new ≡ F.writes files.old }
+    ensures faults { F.faults files.old ≤ F.faults files.new }
+{
+    let name = shown(alloc, script.class_name.bytes())?;
+    let path = class_file(alloc, "./", script.class_name.bytes())?;
+    match read_within(files, path.as_str(), MOST_BYTES) {
+        Ok(bytes) => Ok(bytes),
+        Err(NotRead::Missing) => Err(Stop::no_class(alloc, name.as_str())),
+        Err(NotRead::TooLong) => Err(Stop::not_yet_class()),
+        Err(NotRead::Failed) => Err(Stop::reading(alloc, path.as_str())),
+        Err(NotRead::Memory) => Err(Stop::memory()),
+    }
+}

@@ -1,0 +1,246 @@
+//! Whole runs over files and sinks in memory.
+use super::*;
+use je_base::{MemFiles, MemSink};
+use std::process::Abort;
+use std::test::Fail;
+
+const SCRIPT: &str = "class A { method void m() { call A.f { } } }";
+
+// Class A, whose one method `m` calls `A.f()V` and returns.
+const SOURCE: [u8; 114] = [
+    0xca, 0xfe, 0xba, 0xbe, 0x00, 0x00, 0x00, 0x31, 0x00, 0x0b, 0x01, 0x00, 0x01, 0x41, 0x07, 0x00,
+    0x01, 0x01, 0x00, 0x10, 0x6a, 0x61, 0x76, 0x61, 0x2f, 0x6c, 0x61, 0x6e, 0x67, 0x2f, 0x4f, 0x62,
+    0x6a, 0x65, 0x63, 0x74, 0x07, 0x00, 0x03, 0x01, 0x00, 0x01, 0x6d, 0x01, 0x00, 0x03, 0x28, 0x29,
+    0x56, 0x01, 0x00, 0x04, 0x43, 0x6f, 0x64, 0x65, 0x01, 0x00, 0x01, 0x66, 0x0c, 0x00, 0x08, 0x00,
+    0x06, 0x0a, 0x00, 0x02, 0x00, 0x09, 0x00, 0x21, 0x00, 0x02, 0x00, 0x04, 0x00, 0x00, 0x00, 0x00,
+    0x00, 0x01, 0x00, 0x09, 0x00, 0x05, 0x00, 0x06, 0x00, 0x01, 0x00, 0x07, 0x00, 0x00, 0x00, 0x10,
+    0x00, 0x00, 0x00, 0x00, 0x00, 0x00, 0x00, 0x04, 0xb8, 0x00, 0x0a, 0xb1, 0x00, 0x00, 0x00, 0x00,
+    0x00, 0x00,
+];
+
+// The same without the call.
+const EDITED: [u8; 111] = [
+    0xca, 0xfe, 0xba, 0xbe, 0x00, 0x00, 0x00, 0x31, 0x00, 0x0b, 0x01, 0x00, 0x01, 0x41, 0x07, 0x00,
+    0x01, 0x01, 0x00, 0x10, 0x6a, 0x61, 0x76, 0x61, 0x2f, 0x6c, 0x61, 0x6e, 0x67, 0x2f, 0x4f, 0x62,
+    0x6a, 0x65, 0x63, 0x74, 0x07, 0x00, 0x03, 0x01, 0x00, 0x01, 0x6d, 0x01, 0x00, 0x03, 0x28, 0x29,
+    0x56, 0x01, 0x00, 0x04, 0x43, 0x6f, 0x64, 0x65, 0x01, 0x00, 0x01, 0x66, 0x0c, 0x00, 0x08, 0x00,
+    0x06, 0x0a, 0x00, 0x02, 0x00, 0x09, 0x00, 0x21, 0x00, 0x02, 0x00, 0x04, 0x00, 0x00, 0x00, 0x00,
+    0x00, 0x01, 0x00, 0x09, 0x00, 0x05, 0x00, 0x06, 0x00, 0x01, 0x00, 0x07, 0x00, 0x00, 0x00, 0x0d,
+    0x00, 0x00, 0x00, 0x00, 0x00, 0x00, 0x00, 0x01, 0xb1, 0x00, 0x00, 0x00, 0x00, 0x00, 0x00,
+];
+
+#[derive(Drop)]
+struct Outside {
+    files: MemFiles,
+    out: MemSink,
+    err: MemSink,
+}
+
+// The script and the class, with ample room.
+fn ample(rt: &HostRuntime, script: &str) -> Result<Outside, Fail> {
+    let mut files = MemFiles::new(rt.alloc());
+    files.add("s.je", script.as_bytes())?;
+    files.add("./A.class", &SOURCE)?;
+    files.room(4, 1000)?;
+    let mut out = MemSink::new(rt.alloc());
+    out.room(1000)?;
+    let mut err = MemSink::new(rt.alloc());
+    err.room(1000)?;
+    Ok(Outside { files, out, err })
+}
+
+fn run_on(rt: &impl AllocGlobal, outside: &mut Outside, words: &[&str]) -> Result<Status, Fail> {
+    let mut all = Vec::new(rt.alloc());
+    for word in words {
+        all.push(String::from_str(rt.alloc(), word)?)?;
+    }
+    Ok(run(
+        rt.alloc(),
+        &all,
+        &mut outside.files,
+        &mut outside.out,
+        &mut outside.err,
+    ))
+}
+
+#[test]
+fn memory_with_ample_room(rt: HostRuntime) -> Result<(), Fail> {
+    let mut outside = ample(&rt, SCRIPT)?;
+    assert_eq!(rt; run_on(&rt, &mut outside, &["s.je"])?, Status::Done);
+    assert_eq!(rt;
+        outside.out.bytes(),
+        b"edited A.m()V matched 1\nwrote out/A.class\n".as_slice()
+    );
+    assert_eq!(rt; outside.err.bytes(), b"".as_slice());
+    let written = outside.files.content("out/A.class").ok_or("written")?;
+    assert_eq!(rt; written, EDITED.as_slice());
+    assert_eq!(rt; outside.files.asked().len(), 2);
+    for (asked, path) in outside.files.asked().iter().zip(["s.je", "./A.class"]) {
+        assert_eq!(rt; asked.as_str(), path);
+    }
+    assert_eq!(rt; outside.files.writes(), 1);
+    Ok(())
+}
+
+#[test]
+fn proceed_keeps_the_call(rt: HostRuntime) -> Result<(), Fail> {
+    let script = "class A { method void m() { call A.f { $proceed($$); } } }";
+    let mut outside = ample(&rt, script)?;
+    assert_eq!(rt; run_on(&rt, &mut outside, &["s.je"])?, Status::Done);
+    assert_eq!(rt;
+        outside.out.bytes(),
+        b"edited A.m()V matched 1\nwrote out/A.class\n".as_slice()
+    );
+    assert_eq!(rt; outside.err.bytes(), b"".as_slice());
+    let written = outside.files.content("out/A.class").ok_or("written")?;
+    assert_eq!(rt; written, SOURCE.as_slice());
+    Ok(())
+}
+
+// The status, what standard output got, and what standard error got.
+fn expect<R: AllocGlobal + Abort>(
+    rt: &R,
+    outside: &mut Outside,
+    words: &[&str],
+    status: Status,
+    out: &[u8],
+    err: &[u8],
+) -> Result<(), Fail> {
+    assert_eq!(rt; run_on(rt, outside, words)?, status);
+    assert_eq!(rt; outside.out.bytes(), out);
+    assert_eq!(rt; outside.err.bytes(), err);
+    Ok(())
+}
+
+const USAGE: &[u8] =
+    b"usage: classedit [--path DIRS] [--out DIR] [--mode edit|check|list|gen] SCRIPT\n";
+
+const EDITED_LINE: &[u8] = b"edited A.m()V matched 1\n";
+
+#[test]
+fn refusals(rt: HostRuntime) -> Result<(), Fail> {
+    let no_words: [&str; 0] = [];
+    expect(
+        &rt,
+        &mut ample(&rt, SCRIPT)?,
+        &no_words,
+        Status::Usage,
+        b"",
+        USAGE,
+    )?;
+    expect(
+        &rt,
+        &mut ample(&rt, SCRIPT)?,
+        &["s.je", "s.je"],
+        Status::Usage,
+        b"",
+        USAGE,
+    )?;
+    expect(
+        &rt,
+        &mut ample(&rt, SCRIPT)?,
+        &["-x"],
+        Status::Usage,
+        b"",
+        USAGE,
+    )?;
+    let mut outside = ample(&rt, SCRIPT)?;
+    expect(
+        &rt,
+        &mut outside,
+        &["t.je"],
+        Status::Refused,
+        b"",
+        b"no script t.je\n",
+    )?;
+    assert_eq!(rt; outside.files.writes(), 0);
+    let other = "class Z { method void m() { call A.f { } } }";
+    expect(
+        &rt,
+        &mut ample(&rt, other)?,
+        &["s.je"],
+        Status::Refused,
+        b"",
+        b"no class Z\n",
+    )?;
+    expect(
+        &rt,
+        &mut ample(&rt, "class A")?,
+        &["s.je"],
+        Status::Refused,
+        b"",
+        b"not yet script\n",
+    )?;
+    let mut later = SOURCE;
+    later[7] = 0x34;
+    let mut outside = ample(&rt, SCRIPT)?;
+    outside.files.add("./A.class", &later)?;
+    expect(
+        &rt,
+        &mut outside,
+        &["s.je"],
+        Status::Refused,
+        b"",
+        b"not yet class\n",
+    )
+}
+
+#[test]
+fn nothing_matched(rt: HostRuntime) -> Result<(), Fail> {
+    let mut outside = ample(&rt, "class A { method void m() { call A.h { } } }")?;
+    let out = b"edited A.m()V matched 0\nwrote out/A.class\n".as_slice();
+    expect(&rt, &mut outside, &["s.je"], Status::Done, out, b"")?;
+    let written = outside.files.content("out/A.class").ok_or("written")?;
+    assert_eq!(rt; written, SOURCE.as_slice());
+    Ok(())
+}
+
+#[test]
+fn files_fail(rt: HostRuntime) -> Result<(), Fail> {
+    for (call, out, err) in [
+        (
+            1,
+            b"".as_slice(),
+            b"outside fault: reading s.je\n".as_slice(),
+        ),
+        (
+            2,
+            b"".as_slice(),
+            b"outside fault: reading ./A.class\n".as_slice(),
+        ),
+        (
+            3,
+            EDITED_LINE,
+            b"outside fault: writing out/A.class\n".as_slice(),
+        ),
+    ] {
+        let mut outside = ample(&rt, SCRIPT)?;
+        outside.files.fail_at(call)?;
+        expect(&rt, &mut outside, &["s.je"], Status::Outside, out, err)?;
+        assert!(rt; outside.files.content("out/A.class").is_none());
+    }
+    Ok(())
+}
+
+#[test]
+fn streams_fail(rt: HostRuntime) -> Result<(), Fail> {
+    let err = b"outside fault: standard output\n".as_slice();
+    let mut outside = ample(&rt, SCRIPT)?;
+    outside.out.fail_at(1)?;
+    expect(&rt, &mut outside, &["s.je"], Status::Outside, b"", err)?;
+    assert!(rt; outside.files.content("out/A.class").is_none());
+    let mut outside = ample(&rt, SCRIPT)?;
+    outside.out.fail_at(2)?;
+    expect(
+        &rt,
+        &mut outside,
+        &["s.je"],
+        Status::Outside,
+        EDITED_LINE,
+        err,
+    )?;
+    assert!(rt; outside.files.content("out/A.class").is_some());
+    let mut outside = ample(&rt, SCRIPT)?;
+    outside.err.fail_at(1)?;
+    expect(&rt, &mut outside, &["t.je"], Status::Refused, b"", b"")
+}
