@@ -1,3 +1,5 @@
 pub mod TextLemmas
+pub mod EncodingLemmas
+pub mod ShownLemmas
 pub mod StoreLemmas
 pub mod FilesLemmas

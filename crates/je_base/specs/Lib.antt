@@ -1,6 +1,8 @@
 pub mod Count
 pub mod Text
 pub mod Units
+pub mod Encoding
+pub mod Shown
 pub mod Files
 pub mod Sink
 pub mod Store

@@ -38,11 +38,13 @@ pub trait Files {
 
         // It fails only with a fault on record.
         ensures faults { faults self.old ≤ faults self.new }
-        ensures failed { IsErrOf result FileStop.Failed → HasFault (faults self.old) (faults self.new) };
+        ensures failed { IsErrOf result FileStop.Failed
+            → HasFault (faults self.old) (faults self.new) };
 
     /// Makes `bytes` the file at `path`. After `Failed` that one file is open.
     fn write(&mut self, path: &str, bytes: &[u8]) -> Result<(), Failed>
-        ensures ok { OnOk result (contents self.new ≡ option_map (λ files. insert files path.now bytes.now) (contents self.old)) }
+        ensures ok { OnOk result (contents self.new
+            ≡ option_map (λ files. insert files path.now bytes.now) (contents self.old)) }
         ensures others { KeepsOthers path.now (contents self.old) (contents self.new) }
         ensures counted { writes self.new ≡ raised (writes self.old) }
 

@@ -1,17 +1,19 @@
 //! The files of the real file system.
 
-ghost use Rattle.std.specs.Prelude.{◌≡◌, ◌≤◌, None, vec_len, IfOk, IfSome, IsErrOf, OnOk, OnErr};
+ghost use Rattle.std.specs.Prelude.{◌≡◌, ◌≢◌, ◌≤◌, None, vec_len, IfOk, IfErr, IfSome, IsErrOf, IsOkAnd, IsSomeAnd, OnOk, OnErr};
+ghost use Rattle.std.specs.IoError.{error_kind};
 ghost use Rattle.je_base.specs.Count.{raised, HasFault};
+ghost use Rattle.je_base.specs.Streams.{IsFrontOf};
 
 use crate::count::raised;
 use crate::files::Files;
 use crate::stop::{Failed, FileStop};
 use crate::stream::{read_front, write_whole};
 use std::alloc::Global;
-use std::io::ErrorKind;
+use std::io::{ErrorKind, Read, Write};
 use std::marker::Model;
 use std::path::Path;
-use std::{fs, rt};
+use std::{fs, io, rt};
 
 /// The files of the real file system, over the part `R` of the runtime that reaches them. They tell no
 /// content and no paths.
@@ -81,9 +83,13 @@ impl<R: rt::Files> Files for FsFiles<R> {
 
     fn read(&mut self, path: &str, limit: usize) -> Result<Option<Vec<u8>>, FileStop>
         // Each error is on record, want of memory too.
-        ensures ok { OnOk result (self.new ≡ record self.old { reads = raised self.old.reads }) }
-        ensures err { OnErr result (self.new ≡ record self.old { reads = raised self.old.reads; faults = raised self.old.faults }) }
+        ensures no_fault { OnOk result (self.new.faults ≡ self.old.faults) }
+        ensures fault { OnErr result (self.new.faults ≡ raised self.old.faults) }
+
+        // What each read does.
         ensures within { IfOk result (λ found. IfSome found (λ bytes. vec_len bytes ≤ limit)) }
+        ensures counted { self.new.reads ≡ raised self.old.reads }
+        ensures writes { self.new.writes ≡ self.old.writes }
         ensures faults { self.old.faults ≤ self.new.faults }
         ensures failed { IsErrOf result FileStop.Failed → HasFault self.old.faults self.new.faults }
     {
@@ -96,8 +102,13 @@ impl<R: rt::Files> Files for FsFiles<R> {
     }
 
     fn write(&mut self, path: &str, bytes: &[u8]) -> Result<(), Failed>
-        ensures done { OnOk result (self.new ≡ record self.old { writes = raised self.old.writes }) }
-        ensures err { OnErr result (self.new ≡ record self.old { writes = raised self.old.writes; faults = raised self.old.faults }) }
+        // Each error is on record.
+        ensures no_fault { OnOk result (self.new.faults ≡ self.old.faults) }
+        ensures fault { OnErr result (self.new.faults ≡ raised self.old.faults) }
+
+        // What each write does.
+        ensures counted { self.new.writes ≡ raised self.old.writes }
+        ensures reads { self.new.reads ≡ self.old.reads }
         ensures faults { self.old.faults ≤ self.new.faults }
         ensures failed { OnErr result (HasFault self.old.faults self.new.faults) }
     {
@@ -119,7 +130,24 @@ fn read_file<R: rt::Files>(
 ) -> Result<Option<Vec<u8>>, FileStop>
     ensures { IfOk result (λ found. IfSome found (λ bytes. vec_len bytes ≤ limit)) }
 {
-    match fs::open(system, path) {
+    read_opened(alloc, fs::open(system, path), limit)
+}
+
+/// The first `limit` bytes of a file that is open, or `None` where there was none to open.
+fn read_opened<S: Read + Drop>(
+    alloc: Global,
+    opened: io::Result<S>,
+    limit: usize,
+) -> Result<Option<Vec<u8>>, FileStop>
+    ensures missing { IfErr opened (λ e. error_kind e ≡ ErrorKind.NotFound
+        → IsOkAnd result (λ found. found ≡ None)) }
+    ensures failed { IfErr opened (λ e. error_kind e ≢ ErrorKind.NotFound
+        → IsErrOf result FileStop.Failed) }
+    ensures front { IfOk opened (λ file. IfOk result (λ found. IsSomeAnd found
+        (λ bytes. IsFrontOf (S.remaining file) limit bytes.items))) }
+    ensures within { IfOk result (λ found. IfSome found (λ bytes. vec_len bytes ≤ limit)) }
+{
+    match opened {
         Ok(file) => {
             let mut file = file;
             Ok(Some(read_front(alloc, &mut file, limit)?))
@@ -136,7 +164,14 @@ fn write_file<R: rt::Files>(system: &R, path: &str, bytes: &[u8]) -> Result<(), 
             return Err(Failed);
         }
     }
-    match fs::create(system, path) {
+    write_created(fs::create(system, path), bytes)
+}
+
+/// Writes to a file that was made.
+fn write_created<W: Write + Drop>(created: io::Result<W>, bytes: &[u8]) -> Result<(), Failed>
+    ensures { OnErr created (OnOk result ⊥) }
+{
+    match created {
         Ok(file) => {
             let mut file = file;
             write_whole(&mut file, bytes)

@@ -6,11 +6,13 @@
 #![tactic(auto)]
 
 mod count;
+mod encoding;
 mod files;
 mod fs_files;
 mod mem_files;
 mod mem_sink;
 mod pos;
+mod shown;
 mod sink;
 mod std_sink;
 mod stop;
@@ -18,6 +20,7 @@ mod store;
 mod stream;
 mod text;
 
+pub use encoding::{decode_text, encode_text};
 pub use files::Files;
 pub use fs_files::FsFiles;
 pub use mem_files::MemFiles;

@@ -70,7 +70,8 @@ impl MemFiles {
 
     /// Puts a content at a path, in place of an older one. This is no write, and leaves the room.
     pub fn add(&mut self, path: &str, bytes: &[u8]) -> Result<(), Memory>
-        ensures ok { OnOk result (self.new ≡ record self.old { contents = insert self.old.contents path.now bytes.now }) }
+        ensures ok { OnOk result (self.new
+            ≡ record self.old { contents = insert self.old.contents path.now bytes.now }) }
         ensures err { OnErr result (self.new ≡ self.old) }
     {
         self.store.add(path, bytes)
@@ -78,7 +79,8 @@ impl MemFiles {
 
     /// Makes the call of this number fail. Reads and writes are numbered together, from 1.
     pub fn fail_at(&mut self, call: u64) -> Result<(), Memory>
-        ensures ok { OnOk result (self.new ≡ record self.old { failing = self.old.failing ++ call ∷ [] }) }
+        ensures ok { OnOk result (self.new
+            ≡ record self.old { failing = self.old.failing ++ call ∷ [] }) }
         ensures err { OnErr result (self.new ≡ self.old) }
     {
         self.failing.push(call)?;
@@ -88,7 +90,8 @@ impl MemFiles {
     /// Makes room for so many further writes, whose paths and contents have so many bytes in all. This is
     /// then the room left.
     pub fn room(&mut self, writes: usize, bytes: usize) -> Result<(), Memory>
-        ensures ok { OnOk result (self.new ≡ record self.old { spare_writes = writes; spare_bytes = bytes }) }
+        ensures ok { OnOk result (self.new
+            ≡ record self.old { spare_writes = writes; spare_bytes = bytes }) }
         ensures err { OnErr result (self.new ≡ self.old) }
     {
         self.store.reserve(writes, bytes)
@@ -162,7 +165,8 @@ impl Files for MemFiles {
 
         // The files after it, which are as they were where memory ran out.
         ensures after { OnOk result (self.new ≡ after_read self.old path.now) }
-        ensures after_failed { IsErrOf result FileStop.Failed → self.new ≡ after_failed_read self.old path.now }
+        ensures after_failed { IsErrOf result FileStop.Failed
+            → self.new ≡ after_failed_read self.old path.now }
         ensures after_memory { IsErrOf result FileStop.Memory → self.new ≡ self.old }
 
         // What each read does.
@@ -190,16 +194,18 @@ impl Files for MemFiles {
 
     fn write(&mut self, path: &str, bytes: &[u8]) -> Result<(), Failed>
         // It is done exactly where it was not told to fail and the room suffices.
-        ensures done { OnOk result (FailsNext self.old → ⊥) }
+        ensures answers { OnOk result (FailsNext self.old → ⊥) }
         ensures fits { OnOk result (HasRoomFor self.old path.now bytes.now) }
-        ensures not_done { OnErr result (FailsNext self.old ⊎ (HasRoomFor self.old path.now bytes.now → ⊥)) }
+        ensures not_done { OnErr result
+            (FailsNext self.old ⊎ (HasRoomFor self.old path.now bytes.now → ⊥)) }
 
         // The files after it.
         ensures after { OnOk result (self.new ≡ after_write self.old path.now bytes.now) }
         ensures after_failed { OnErr result (self.new ≡ after_failed_write self.old) }
 
         // What each write does.
-        ensures ok { OnOk result (Some self.new.contents ≡ option_map (λ files. insert files path.now bytes.now) (Some self.old.contents)) }
+        ensures ok { OnOk result (Some self.new.contents
+            ≡ option_map (λ files. insert files path.now bytes.now) (Some self.old.contents)) }
         ensures others { KeepsOthers path.now (Some self.old.contents) (Some self.new.contents) }
         ensures counted { self.new.writes ≡ raised self.old.writes }
         ensures asked { Some self.new.asked ≡ Some self.old.asked }
@@ -226,7 +232,8 @@ fn front_at(
     path: &str,
     limit: usize,
 ) -> Result<Option<Vec<u8>>, Memory>
-    ensures { IfOk result (λ found. option_map (λ v. v.items) found ≡ option_map (take limit) (get store.now.contents path.now)) }
+    ensures { IfOk result (λ found. option_map (λ v. v.items) found
+        ≡ option_map (take limit) (get store.now.contents path.now)) }
 {
     match store.content(path) {
         None => Ok(None),

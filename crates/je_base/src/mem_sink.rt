@@ -59,7 +59,8 @@ impl MemSink {
 
     /// Makes the put of this number fail. Puts are numbered from 1.
     pub fn fail_at(&mut self, call: u64) -> Result<(), Memory>
-        ensures ok { OnOk result (self.new ≡ record self.old { failing = self.old.failing ++ call ∷ [] }) }
+        ensures ok { OnOk result (self.new
+            ≡ record self.old { failing = self.old.failing ++ call ∷ [] }) }
         ensures err { OnErr result (self.new ≡ self.old) }
     {
         self.failing.push(call)?;
@@ -107,7 +108,7 @@ impl Sink for MemSink {
 
     fn put(&mut self, piece: &[u8]) -> Result<(), Failed>
         // It is done exactly where it was not told to fail and the room suffices.
-        ensures done { OnOk result (FailsNext self.old → ⊥) }
+        ensures answers { OnOk result (FailsNext self.old → ⊥) }
         ensures fits { OnOk result (HasRoomFor self.old piece.now) }
         ensures not_done { OnErr result (FailsNext self.old ⊎ (HasRoomFor self.old piece.now → ⊥)) }
 
@@ -116,7 +117,8 @@ impl Sink for MemSink {
         ensures after_failed { OnErr result (self.new ≡ after_failed_put self.old) }
 
         // What each put does.
-        ensures ok { OnOk result (Some self.new.bytes ≡ option_map (λ taken. taken ++ piece.now) (Some self.old.bytes)) }
+        ensures ok { OnOk result (Some self.new.bytes
+            ≡ option_map (λ taken. taken ++ piece.now) (Some self.old.bytes)) }
         ensures front { GainsFront piece.now (Some self.old.bytes) (Some self.new.bytes) }
         ensures counted { self.new.puts ≡ raised self.old.puts }
         ensures faults { self.old.faults ≤ self.new.faults }

@@ -20,7 +20,8 @@ pub trait Sink {
 
     /// Adds `piece` at the end. After `Failed` a front of the piece was added.
     fn put(&mut self, piece: &[u8]) -> Result<(), Failed>
-        ensures ok { OnOk result (bytes self.new ≡ option_map (λ taken. taken ++ piece.now) (bytes self.old)) }
+        ensures ok { OnOk result (bytes self.new
+            ≡ option_map (λ taken. taken ++ piece.now) (bytes self.old)) }
         ensures front { GainsFront piece.now (bytes self.old) (bytes self.new) }
         ensures counted { puts self.new ≡ raised (puts self.old) }
 

@@ -1,6 +1,7 @@
 //! The standard streams.
 
 ghost use Rattle.std.specs.Prelude.{◌≡◌, ◌≤◌, None, OnOk, OnErr};
+ghost use Rattle.std.specs.Io.KnownBytes.{Appends};
 ghost use Rattle.je_base.specs.Count.{raised, HasFault};
 
 use crate::count::raised;
@@ -12,24 +13,25 @@ use std::marker::Model;
 
 /// A standard stream `W`. It tells no bytes.
 #[derive(Drop)]
-pub struct StdSink<W> {
+pub struct StdSink<W: Write> {
     stream: W,
     puts: u64,
     faults: u64,
 }
 
-impl<W> Model for StdSink<W> {
+impl<W: Write> Model for StdSink<W> {
     ghost use Rattle.je_base.specs.StdSink.{SinkCounts};
 
     ghost Value = { SinkCounts };
 
-    ghost view = { λ s. record { puts = s.puts; faults = s.faults } };
+    ghost view = { λ s. record { sent = W.contents s.stream; puts = s.puts; faults = s.faults } };
 }
 
 impl StdSink<Stdout> {
     /// The standard output, with no puts or faults yet.
     pub fn output(stream: Stdout) -> StdSink<Stdout>
-        ensures { result ≡ record { puts = 0; faults = 0 } }
+        ensures puts { result.puts ≡ 0 }
+        ensures faults { result.faults ≡ 0 }
     {
         StdSink {
             stream,
@@ -42,7 +44,8 @@ impl StdSink<Stdout> {
 impl StdSink<Stderr> {
     /// The standard error stream, with no puts or faults yet.
     pub fn error(stream: Stderr) -> StdSink<Stderr>
-        ensures { result ≡ record { puts = 0; faults = 0 } }
+        ensures puts { result.puts ≡ 0 }
+        ensures faults { result.faults ≡ 0 }
     {
         StdSink {
             stream,
@@ -76,9 +79,15 @@ impl<W: Write> Sink for StdSink<W> {
     ghost faults = { λ s. s.faults };
 
     fn put(&mut self, piece: &[u8]) -> Result<(), Failed>
+        // The stream gets the whole piece, where it tells its bytes.
+        ensures sent { OnOk result (Appends self.old.sent self.new.sent piece.now) }
+
         // Each error is on record.
-        ensures done { OnOk result (self.new ≡ record self.old { puts = raised self.old.puts }) }
-        ensures err { OnErr result (self.new ≡ record self.old { puts = raised self.old.puts; faults = raised self.old.faults }) }
+        ensures no_fault { OnOk result (self.new.faults ≡ self.old.faults) }
+        ensures fault { OnErr result (self.new.faults ≡ raised self.old.faults) }
+
+        // What each put does.
+        ensures counted { self.new.puts ≡ raised self.old.puts }
         ensures faults { self.old.faults ≤ self.new.faults }
         ensures failed { OnErr result (HasFault self.old.faults self.new.faults) }
     {

@@ -1,3 +1,4 @@
+use crate::encoding::{decode_text, encode_text};
 use crate::files::Files;
 use crate::fs_files::FsFiles;
 use crate::mem_files::MemFiles;
@@ -27,6 +28,66 @@ fn texts_are_modified_utf8(rt: HostRuntime) -> Result<(), Fail> {
         if let Some(text) = text {
             assert_eq!(rt; text.copy()?.bytes(), bytes);
         }
+    }
+    Ok(())
+}
+
+#[test]
+fn strings_are_encoded(rt: HostRuntime) -> Result<(), Fail> {
+    let table: [(&str, &[u8]); 5] = [
+        ("", b""),
+        ("A", b"\x41"),
+        ("\0", b"\xc0\x80"),
+        ("\u{e9}\u{20ac}", b"\xc3\xa9\xe2\x82\xac"),
+        ("\u{1f600}", b"\xed\xa0\xbd\xed\xb8\x80"),
+    ];
+    for (string, bytes) in table {
+        let text = Text::of(rt.alloc(), string)?;
+        assert_eq!(rt; text.bytes(), bytes);
+        let encoded = encode_text(rt.alloc(), string)?;
+        assert_eq!(rt; encoded.as_slice(), bytes);
+        let decoded = decode_text(rt.alloc(), bytes)?;
+        assert!(rt;
+            matches!(&decoded, Some(found) if found.as_str() == string),
+            "at {bytes:?}"
+        );
+    }
+    Ok(())
+}
+
+#[test]
+fn other_bytes_encode_no_string(rt: HostRuntime) -> Result<(), Fail> {
+    let table: [&[u8]; 8] = [
+        b"\x00",
+        b"\x80",
+        b"\xc1\x81",
+        b"\xe0\x81\x81",
+        b"\xed\xa0",
+        b"\xed\xa0\xbd",
+        b"\xed\xb8\x80\xed\xa0\xbd",
+        b"\xf0\x9f\x98\x80",
+    ];
+    for bytes in table {
+        let decoded = decode_text(rt.alloc(), bytes)?;
+        assert!(rt; decoded.is_none(), "at {bytes:?}");
+    }
+    Ok(())
+}
+
+#[test]
+fn texts_are_shown(rt: HostRuntime) -> Result<(), Fail> {
+    let table: [(&[u8], &str); 5] = [
+        (b"Code", "Code"),
+        (b"\xc3\xa9\x7f", "\u{e9}\u{7f}"),
+        (b"\xc0\x80", "\\xc0\\x80"),
+        (b"\xed\xa0\xbd", "\\xed\\xa0\\xbd"),
+        (b"a~\n\x7f", "a~\\x0a\\x7f"),
+    ];
+    for (bytes, shown) in table {
+        let Some(text) = Text::from_bytes(rt.alloc(), bytes)? else {
+            panic!(rt; "no text at {bytes:?}");
+        };
+        assert_eq!(rt; text.show()?.as_str(), shown);
     }
     Ok(())
 }

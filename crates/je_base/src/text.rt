@@ -1,9 +1,15 @@
 //! Class file texts.
 
 ghost use Rattle.std.specs.Prelude.{◌≡◌, ℕ, ◌↔◌, IsTrue, IfOk, IfSome, IfNone};
+ghost use Rattle.std.specs.Str.{chars};
+ghost use Rattle.std.specs.String.{string_bytes};
+ghost use Rattle.je_base.specs.Encoding.{encoding};
 ghost use Rattle.je_base.specs.Text.{IsModifiedUtf8};
+ghost use Rattle.je_base.specs.Shown.{shown};
 ghost use Rattle.je_base.specs.Units.{Follows};
 
+use crate::encoding::encode_text;
+use crate::shown::show;
 use crate::stop::Memory;
 use std::alloc::Global;
 use std::marker::Model;
@@ -29,6 +35,7 @@ impl Text {
     /// The text of these bytes, or `None` where they are not in modified UTF-8.
     pub fn from_bytes(alloc: Global, b: &[u8]) -> Result<Option<Text>, Memory>
         ensures text { IfOk result (λ found. IfSome found (λ text. text ≡ b.now)) }
+        ensures form { IfOk result (λ found. IfSome found (λ _. IsModifiedUtf8 b.now)) }
         ensures none { IfOk result (λ found. IfNone found (IsModifiedUtf8 b.now → ⊥)) }
     {
         if !is_modified_utf8(b) {
@@ -36,6 +43,14 @@ impl Text {
         }
         let bytes = Vec::from_slice(alloc, b)?;
         Ok(Some(Text { bytes }))
+    }
+
+    /// The text of a string.
+    pub fn of(alloc: Global, s: &str) -> Result<Text, Memory>
+        ensures { IfOk result (λ text. text ≡ encoding (chars s.now)) }
+    {
+        let bytes = encode_text(alloc, s)?;
+        Ok(Text { bytes })
     }
 
     /// The bytes of the text.
@@ -52,6 +67,16 @@ impl Text {
     {
         let bytes = self.bytes.clone()?;
         Ok(Text { bytes })
+    }
+
+    /// The text as a message shows it.
+    ///
+    /// Its string, where it has one with no character below U+0020, and else its bytes, those from 20 to 7E
+    /// as they are and each other one as `\x` and two hexadecimal digits.
+    pub fn show(&self) -> Result<String, Memory>
+        ensures { IfOk result (λ s. string_bytes s ≡ shown self.now) }
+    {
+        show(*self.bytes.allocator(), &self.bytes)
     }
 }
 
