@@ -1,0 +1,5 @@
+pub mod Slices
+pub mod NameFronts
+pub mod FieldFronts
+pub mod Descriptors
+pub mod MethodFronts

@@ -1,0 +1,5 @@
+pub mod Names
+pub mod FieldType
+pub mod Descriptor
+pub mod Front
+pub mod Types
