@@ -202,7 +202,11 @@ fails_only stops.Memory c is fails = refl
 fails_only stops.NotYet c is fails = absurd cc
 
 -- a record that was read, and names what it has to, is spelled by the bytes
-pub is_spelled : (bytes : List ℕ) (c d : Class) → IsRead bytes c → IsClass d → d ≡ c → ClassBytes bytes d × IsFirstForm d
+pub is_spelled : (bytes : List ℕ) (c d : Class) → IsRead bytes c → IsClass d → d ≡ c → ClassBytes bytes d
 is_spelled bytes c d read names same =
     let back = subst (λ (x : Class). IsRead bytes x) (sym same) read in
-    (record { layout = back.layout; fits = back.fits; names = names }, back.form)
+    record { layout = back.layout; fits = back.fits; names = names }
+
+-- and it has the form that is read
+pub has_form : (bytes : List ℕ) (c d : Class) → IsRead bytes c → d ≡ c → IsFirstForm d
+has_form bytes c d read same = subst (λ (x : Class). IsFirstForm x) (sym same) read.form

@@ -6,7 +6,7 @@ use Rattle.je_class.specs.declared.constant.Const.{Const}
 use Rattle.je_class.specs.declared.constant.Const.TheVariants.{Utf8, Class as ClassInfo, Method, NameAndType}
 use Rattle.je_class.specs.declared.member.Attribute.{Attribute}
 use Rattle.je_class.specs.declared.member.Member.{Member}
-use Rattle.je_class.specs.Names.{IsClassName}
+use Rattle.je_desc.specs.Names.{IsClassName}
 
 -- the items of a ClassFile structure, in the order of the file; the magic number and the counts follow from them
 pub record Class : Type 0 where

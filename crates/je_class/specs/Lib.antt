@@ -1,4 +1,3 @@
-pub mod Names
 pub mod Class
 pub mod Layout
 pub mod ClassBytes

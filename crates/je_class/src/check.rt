@@ -2,7 +2,6 @@
 
 ghost use Rattle.std.specs.Prelude.{◌≡◌, ◌≤◌, ◌⊎◌, ◌↔◌, [], IsTrue, Some, codes};
 ghost use Rattle.std.specs.List.{AllByRecursion};
-ghost use Rattle.je_class.specs.Names.{IsNameByte, IsClassName};
 ghost use Rattle.je_class.specs.Class.{text_at, IsConst, IsClassIndex, IsAttribute, IsMethod, IsClass};
 ghost use Rattle.je_class.specs.Parts.{class_of_parts};
 
@@ -11,22 +10,10 @@ use crate::lookup::{class_at, name_and_type_at, text_at};
 use crate::member::{Attribute, Member};
 use crate::named::has_text;
 use crate::parts::Parts;
+use je_desc::is_class_name;
 
 /// The descriptor of a method that takes nothing and answers nothing.
 const NO_ARGUMENTS: &[u8] = b"()V";
-
-/// Whether a byte may stand in the name of a class that is no array (JVMS 4.2.1).
-fn is_name_byte(byte: u8) -> bool
-    ensures { IsTrue result ↔ IsNameByte byte }
-{
-    byte != b'.' && byte != b';' && byte != b'['
-}
-
-fn is_class_name(name: &[u8]) -> bool
-    ensures { IsTrue result ↔ IsClassName name.now }
-{
-    !name.is_empty() && name.iter().all(|b| is_name_byte(*b))
-}
 
 fn is_class_index(consts: &[Const], index: u16) -> bool
     ensures { IsTrue result ↔ IsClassIndex consts.now index }

@@ -84,14 +84,16 @@ impl ClassFile {
     /// Every method that is read so far has the descriptor `()V`.
     pub fn find_method(&self, name: &Text) -> Option<usize>
         ensures found { IfSome result (IsMethodAt self.now name.now (codes "()V")) }
-        ensures none { IfNone result (All (λ m. IsNamed self.now.consts name.now (codes "()V") m → ⊥) self.now.methods) }
+        ensures none { IfNone result
+            (All (λ m. IsNamed self.now.consts name.now (codes "()V") m → ⊥) self.now.methods) }
     {
         place_of(&self.parts.consts, name, b"()V", &self.parts.methods)
     }
 
     /// Puts other bytes, fewer than 4,294,967,296, into an attribute of a method. Both are named by their places.
     pub fn set_method_attribute(&mut self, method: usize, attribute: usize, bytes: Items<u8>)
-        requires is_there { IsSomeAnd (slice_get self.old.methods method) (λ m. attribute < length m.attributes) }
+        requires is_there { IsSomeAnd (slice_get self.old.methods method)
+            (λ m. attribute < length m.attributes) }
         requires fits { length bytes < 2 ^ 32 }
         ensures { self.new ≡ with_method_attribute method attribute bytes self.old }
     {

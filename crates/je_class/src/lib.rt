@@ -1,6 +1,6 @@
 //! Class files, read to a record and written back.
 //!
-//! Stands on je_base. Offers above: what is read is spelled by the bytes, what is spelled so is read, and
+//! Stands on je_base and je_desc. Offers above: what is read is spelled by the bytes, what is spelled so is read, and
 //! what is written is that spelling.
 #![tactic(auto)]
 

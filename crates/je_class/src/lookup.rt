@@ -39,7 +39,8 @@ pub fn class_at(consts: &[Const], index: u16) -> Option<&Text>
 
 /// The name and the descriptor of the CONSTANT_NameAndType at an index.
 pub fn name_and_type_at(consts: &[Const], index: u16) -> Option<(&Text, &Text)>
-    ensures { option_map (λ pair. (pair.0.now, pair.1.now)) result ≡ name_and_type_at consts.now index }
+    ensures { option_map (λ pair. (pair.0.now, pair.1.now)) result
+        ≡ name_and_type_at consts.now index }
 {
     match const_at(consts, index) {
         Some(Const::NameAndType(name, descriptor)) => {

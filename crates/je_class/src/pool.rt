@@ -14,11 +14,7 @@ fn text_of(alloc: Global, bytes: &[u8]) -> Result<Text, ReadStop>
     ensures { Gives (λ text. text) result (if is_text bytes.now then Some bytes.now else None) }
 {
     match Text::from_bytes(alloc, bytes)? {
-        Some(text) => {
-            // The bytes of a text are modified UTF-8.
-            let _bytes = text.bytes();
-            Ok(text)
-        }
+        Some(text) => Ok(text),
         None => Err(ReadStop::NotYet),
     }
 }

@@ -95,12 +95,13 @@ fn parts_of(alloc: Global, bytes: &[u8]) -> Result<Parts, ReadStop>
 /// memory runs out.
 pub fn read_class(alloc: Global, bytes: &[u8]) -> Result<ClassFile, ReadStop>
     // What is read is spelled by the bytes.
-    ensures found { IfOk result (λ c. ClassBytes bytes.now c × IsFirstForm c) }
-    ensures length { OnOk result (length bytes.now ≤ MOST_BYTES) }
+    ensures found { IfOk result (ClassBytes bytes.now) }
+    ensures form { IfOk result IsFirstForm }
+    ensures within { OnOk result (length bytes.now ≤ MOST_BYTES) }
 
     // What is spelled so is read, unless memory runs out.
-    ensures only { (c : Class) → length bytes.now ≤ MOST_BYTES → ClassBytes bytes.now c → IsFirstForm c →
-        MatchResult result (λ d. d ≡ c) (λ e. e ≡ ReadStop.Memory) }
+    ensures only { (c : Class) → length bytes.now ≤ MOST_BYTES → ClassBytes bytes.now c
+        → IsFirstForm c → MatchResult result (λ d. d ≡ c) (λ e. e ≡ ReadStop.Memory) }
 {
     if bytes.len() > MOST_BYTES {
         return Err(ReadStop::NotYet);

@@ -15,7 +15,7 @@ begins_refl a = ([], sym (append-nil a.events))
 pub begins_then : (a b c : Outside) → BeginsEvents a b → BeginsEvents b c → BeginsEvents a c
 begins_then a b c p q = (p.0 ++ q.0, q.1 ∙ ap (λ (l : List Event). l ++ q.0) p.1 ∙ append_assoc a.events p.0 q.0)
 
-none_or_some : {A : Type 0} (o : Option A) → (o ≡ None) ⊎ IsSome o
+pub none_or_some : {A : Type 0} (o : Option A) → (o ≡ None) ⊎ IsSome o
 none_or_some None = inl refl
 none_or_some (Some x) = inr refl
 

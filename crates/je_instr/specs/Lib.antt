@@ -5,6 +5,7 @@ pub mod Operation
 pub mod Outside
 pub mod Machine
 pub mod View
+pub mod Sample
 pub mod Spelling
 pub mod Code
 pub mod ProgramOf

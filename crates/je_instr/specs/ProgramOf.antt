@@ -4,7 +4,7 @@ use Rattle.std.specs.List.{AllByRecursion, AllZip}
 use Rattle.je_class.specs.declared.constant.Const.{Const}
 use Rattle.je_class.specs.declared.member.Attribute.{Attribute}
 use Rattle.je_class.specs.declared.member.Member.{Member}
-use Rattle.je_class.specs.Names.{IsClassName}
+use Rattle.je_desc.specs.Names.{IsClassName}
 use Rattle.je_class.specs.Class.{Class, text_at}
 use Rattle.je_instr.specs.declared.instr.Instr.{Instr}
 use Rattle.je_instr.specs.declared.instr.Instr.TheVariants as instr

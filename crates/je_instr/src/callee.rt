@@ -2,13 +2,13 @@
 
 ghost use Rattle.std.specs.Prelude.{◌≡◌, ℕ, ◌↔◌, List, Some, codes, IsTrue, IfSome, IfNone};
 ghost use Rattle.std.specs.Option.{option_map};
-ghost use Rattle.je_class.specs.Names.{IsClassName};
 ghost use Rattle.je_instr.specs.Content.{Member, Method, content_at};
 ghost use Rattle.je_instr.specs.Callee.{of_method};
 ghost use Rattle.je_instr.specs.ProgramOf.{IsCallable};
 
 use je_base::Text;
 use je_class::{Const, class_at, const_at, name_and_type_at};
+use je_desc::is_class_name;
 
 /// The name of constructors (JVMS 2.9.1).
 const CONSTRUCTOR: &[u8] = b"<init>";
@@ -19,12 +19,6 @@ const INITIALISER: &[u8] = b"<clinit>";
 /// The descriptor of a method that takes nothing and answers nothing.
 const NO_ARGUMENTS: &[u8] = b"()V";
 
-fn is_class_name(bytes: &[u8]) -> bool
-    ensures { IsTrue result ↔ IsClassName bytes.now }
-{
-    !bytes.is_empty() && bytes.iter().all(|b| *b != b'.' && *b != b';' && *b != b'[')
-}
-
 fn is_callable(class: &[u8], name: &[u8], descriptor: &[u8]) -> bool
     ensures { IsTrue result ↔ IsCallable class.now name.now descriptor.now }
 {
@@ -33,7 +27,8 @@ fn is_callable(class: &[u8], name: &[u8], descriptor: &[u8]) -> bool
 
 /// The class, the name and the descriptor of a method.
 fn method_at(consts: &[Const], index: u16) -> Option<(&Text, &Text, &Text)>
-    ensures { option_map (λ m. Member Method m.0.now m.1.now m.2.now) result ≡ of_method (content_at consts.now index) }
+    ensures { option_map (λ m. Member Method m.0.now m.1.now m.2.now) result
+        ≡ of_method (content_at consts.now index) }
 {
     let Some(Const::Method(class, member)) = const_at(consts, index) else {
         return None;
@@ -48,9 +43,11 @@ fn method_at(consts: &[Const], index: u16) -> Option<(&Text, &Text, &Text)>
 /// `None`: the constant is no method, or a method that no instruction may call: one of an array, a
 /// constructor, a class initialiser, or so far one with parameters or a result.
 pub fn called_method(consts: &[Const], index: u16) -> Option<(&Text, &Text)>
-    ensures found { IfSome result (λ m. (content_at consts.now index ≡ Some (Member Method m.0.now m.1.now (codes "()V")))
-        × IsCallable m.0.now m.1.now (codes "()V")) }
-    ensures none { IfNone result ((class name descriptor : List ℕ) → content_at consts.now index ≡ Some (Member Method class name descriptor)
+    ensures found { IfSome result (λ m. content_at consts.now index
+        ≡ Some (Member Method m.0.now m.1.now (codes "()V"))) }
+    ensures callable { IfSome result (λ m. IsCallable m.0.now m.1.now (codes "()V")) }
+    ensures none { IfNone result ((class name descriptor : List ℕ)
+        → content_at consts.now index ≡ Some (Member Method class name descriptor)
         → IsCallable class name descriptor → ⊥) }
 {
     let (class, name, descriptor) = method_at(consts, index)?;

@@ -100,9 +100,12 @@ fn are_empty_tables(bytes: &[u8]) -> bool
 /// 65,535 bytes of it, or ends too early or too late. `Memory`: there was not enough memory.
 pub fn read_code(alloc: Global, info: &[u8]) -> Result<MethodCode, CodeStop>
     // What is read is spelled so.
-    ensures found { IfOk result (λ c. CodeBytes info.now (plain_code c) × AllByRecursion FitsInstr c.instrs) }
+    ensures found { IfOk result (λ c. CodeBytes info.now (plain_code c)) }
+    ensures fits { IfOk result (λ c. AllByRecursion FitsInstr c.instrs) }
+
     // What is spelled so is read, unless memory runs out.
-    ensures only { (c : MethodCode) → CodeBytes info.now (plain_code c) → AllByRecursion FitsInstr c.instrs
+    ensures only { (c : MethodCode) → CodeBytes info.now (plain_code c)
+        → AllByRecursion FitsInstr c.instrs
         → MatchResult result (λ d. d ≡ c) (λ e. e ≡ CodeStop.Memory) }
 {
     let Some(head) = head_of(info) else {
@@ -122,7 +125,8 @@ pub fn read_code(alloc: Global, info: &[u8]) -> Result<MethodCode, CodeStop>
 /// The content of the Code attribute (JVMS 4.7.3). It fails only for want of memory.
 pub fn write_code(alloc: Global, code: &MethodCode) -> Result<Vec<u8>, Memory>
     // There is code, of at most 65,535 bytes.
-    requires { (0 < length (code_bytes code.now.instrs)) × (length (code_bytes code.now.instrs) < 2 ^ 16) }
+    requires some { 0 < length (code_bytes code.now.instrs) }
+    requires fits { length (code_bytes code.now.instrs) < 2 ^ 16 }
     ensures { IfOk result (λ v. CodeBytes v.items (plain_code code.now)) }
 {
     let bytes = encode(alloc, code.instrs.as_slice())?;

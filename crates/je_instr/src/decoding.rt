@@ -31,9 +31,12 @@ fn instr_at(bytes: &[u8]) -> Option<(Instr, &[u8])>
 /// `Memory`: there was not enough memory.
 pub fn decode(alloc: Global, code: &[u8]) -> Result<Vec<Instr>, CodeStop>
     // What is decoded is spelled so.
-    ensures found { IfOk result (λ v. (code.now ≡ code_bytes v.items) × AllByRecursion FitsInstr v.items) }
+    ensures found { IfOk result (λ v. code.now ≡ code_bytes v.items) }
+    ensures fits { IfOk result (λ v. AllByRecursion FitsInstr v.items) }
+
     // What is spelled so is decoded, unless memory runs out.
-    ensures only { (instrs : List Instr) → AllByRecursion FitsInstr instrs → code.now ≡ code_bytes instrs
+    ensures only { (instrs : List Instr) → AllByRecursion FitsInstr instrs
+        → code.now ≡ code_bytes instrs
         → MatchResult result (λ v. v.items ≡ instrs) (λ e. e ≡ CodeStop.Memory) }
 {
     let mut instrs = Vec::new(alloc);

@@ -1,4 +1,4 @@
-use Rattle.std.proofs.Common.{Some, sym, ap, subst, refl, ◌∙◌}
+use Rattle.std.proofs.Common.{Some, sym, ap, refl}
 use Rattle.je_base.specs.Text.{IsModifiedUtf8}
 use Rattle.je_class.proofs.Texts.{is_text-true, is_text-false}
 use Rattle.je_class.proofs.pool.text_of.Goals as goal
@@ -6,7 +6,7 @@ use Rattle.je_class.proofs.pool.text_of.Goals as goal
 pub returns-in-Some : goal.returns-in-Some
 returns-in-Some c =
     let is = rw c.in-Some.is at c.in_ok-text.ensures.text in
-    let form : IsModifiedUtf8 c.args.bytes.now = subst (λ bytes. IsModifiedUtf8 bytes) (c.bytes-bytes.ensures.bytes ∙ is) c.bytes-bytes.ensures.form in
+    let form : IsModifiedUtf8 c.args.bytes.now = rw c.in-Some.is at c.in_ok-text.ensures.form in
     rw (is_text-true c.args.bytes.now form) (ap (λ text. Some text) (sym is))
 
 pub returns-in-None : goal.returns-in-None

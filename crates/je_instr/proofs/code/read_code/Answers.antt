@@ -28,9 +28,11 @@ returns-in_err-instrs-clause-only c = λ m is fits.
 
 pub returns-clause-found : goal.returns-clause-found
 returns-clause-found c =
-    let found = c.in_ok-instrs.ensures.found in
     let tables = c.are_empty_tables.ensures.0 c.if-not-are_empty_tables.false in
-    rw c.from_vec.ensures (is_plain c.args.info.now (head_view c.in-Some.head) c.in_ok-instrs.instrs.items (λ i. omega (arith, c.type_inv.info i)) (sym c.in-Some.ensures) tables found.0, found.1)
+    rw c.from_vec.ensures (is_plain c.args.info.now (head_view c.in-Some.head) c.in_ok-instrs.instrs.items (λ i. omega (arith, c.type_inv.info i)) (sym c.in-Some.ensures) tables c.in_ok-instrs.ensures.found)
+
+pub returns-clause-fits : goal.returns-clause-fits
+returns-clause-fits c = rw c.from_vec.ensures c.in_ok-instrs.ensures.fits
 
 pub returns-clause-only : goal.returns-clause-only
 returns-clause-only c = λ m is fits.
