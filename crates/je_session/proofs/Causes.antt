@@ -9,8 +9,9 @@ use Rattle.je_session.specs.declared.status.Status.{Status}
 use Rattle.je_session.specs.declared.status.Status.TheVariants as status
 use Rattle.je_session.specs.Forms.{IsLine, IsScript, ClassForm, ReadsScript, ReadsClass, class_path}
 use Rattle.je_session.specs.Fulfils.{HasWritten}
-use Rattle.je_session.specs.Cause.{Refusal, NoScript, NotYetScript, NoClass, NotYetClass, Cause, NoLine, Refuses, ReadingFailed, WritingFailed, OutputFailed, NoMemory, IsRefusal, Explains, HasCause, Stopped, status_of}
-use Rattle.je_session.specs.declared.report.Stop.{Stop}
+use Rattle.je_session.specs.Cause.{Refusal, NoScript, NotYetScript, NoClass, NotYetClass, NoLine, Refuses, ReadingFailed, NoMemory, IsRefusal, IsQuiet}
+use Rattle.je_session.specs.Output.{Put, Write, Taken, Held}
+use Rattle.je_session.specs.ReportText.{ReportText, Outcome, Stopped, Came, Happens, answer_of}
 use Rattle.je_session.proofs.ScriptLemmas.{one_script}
 
 one_path : (words : List (List ℕ)) (a b : List ℕ) → IsLine words a → IsLine words b → a ≡ b
@@ -58,62 +59,56 @@ line_of_refusal words files NotYetScript (path, text, line, found, none) = (path
 line_of_refusal words files (NoClass name) (script, reads, name_is, none) = (reads.path, reads.line)
 line_of_refusal words files NotYetClass (script, bytes, reads, found, none) = (reads.path, reads.line)
 
-complete_by : (words : List (List ℕ)) (files : Contents) (files_fault out_fault : Type 0) (answer : Status) (script : Script) (source : Class) (cause : Cause)
-    → Explains words (Some files) files_fault out_fault cause → answer ≡ status_of cause → ReadsScript words files script → ReadsClass files script source → (files_fault → ⊥) → (out_fault → ⊥)
+-- what happened where script and class are read and nothing failed
+complete_by : {files_fault out_fault : Type 0} (words : List (List ℕ)) (files : Contents) (answer : Status) (script : Script) (source : Class) (outcome : Outcome)
+    → Happens words (Some files) files_fault out_fault outcome → answer ≡ answer_of outcome → ReadsScript words files script → ReadsClass files script source → (files_fault → ⊥) → (out_fault → ⊥)
     → (answer ≡ status.Done) ⊎ (answer ≡ status.Memory)
-complete_by words files ff of answer script source NoLine explains is reads finds no_files no_out = absurd (explains reads.path reads.line)
-complete_by words files ff of answer script source (Refuses refusal) explains is reads finds no_files no_out = absurd (no_refusal words files script source reads finds refusal explains)
-complete_by words files ff of answer script source (ReadingFailed path) explains is reads finds no_files no_out = absurd (no_files explains.0)
-complete_by words files ff of answer script source (WritingFailed path) explains is reads finds no_files no_out = absurd (no_files explains.0)
-complete_by words files ff of answer script source OutputFailed explains is reads finds no_files no_out = absurd (no_out explains.0)
-complete_by words files ff of answer script source NoMemory explains is reads finds no_files no_out = inr is
+complete_by words files answer script source (Stopped NoLine) explains is reads finds no_files no_out = absurd (explains reads.path reads.line)
+complete_by words files answer script source (Stopped (Refuses refusal)) explains is reads finds no_files no_out = absurd (no_refusal words files script source reads finds refusal explains)
+complete_by words files answer script source (Stopped (ReadingFailed path)) explains is reads finds no_files no_out = absurd (no_files explains.0)
+complete_by words files answer script source (Stopped NoMemory) explains is reads finds no_files no_out = inr is
+complete_by words files answer script source (Came e matched None) happens is reads finds no_files no_out = inl is
+complete_by words files answer script source (Came e matched (Some (Put piece))) happens is reads finds no_files no_out = absurd (no_out happens.2)
+complete_by words files answer script source (Came e matched (Some (Write path bytes))) happens is reads finds no_files no_out = absurd (no_files happens.2)
 
-pub complete_from : (words : List (List ℕ)) (files : Option Contents) (files_fault out_fault : Type 0) (answer : Status) (old new : Option (List ℕ))
-    → HasCause words files files_fault out_fault answer old new → (script : Script) (source : Class)
+pub complete_from : {files_fault out_fault err_fault : Type 0} (words : List (List ℕ)) (files : Option Contents) (answer : Status) (old new : Held) (err_old err_new : Taken)
+    → files ≡ old.contents → ReportText words files_fault out_fault err_fault answer old new err_old err_new → (script : Script) (source : Class)
     → IfSome files (λ before. ReadsScript words before script → ReadsClass before script source → (files_fault → ⊥) → (out_fault → ⊥) → (answer ≡ status.Done) ⊎ (answer ≡ status.Memory))
-complete_from words None ff of answer old new answers script source = tt
-complete_from words (Some files) ff of answer old new (inl done) script source = λ reads finds no_files no_out. inl done
-complete_from words (Some files) ff of answer old new (inr (cause, explains, is, front)) script source =
-    λ reads finds no_files no_out. complete_by words files ff of answer script source cause explains is reads finds no_files no_out
-
-not_done : (answer : Status) (cause : Cause) → answer ≡ status_of cause → answer ≡ status.Done → ⊥
-not_done answer NoLine is done = cc
-not_done answer (Refuses refusal) is done = cc
-not_done answer (ReadingFailed path) is done = cc
-not_done answer (WritingFailed path) is done = cc
-not_done answer OutputFailed is done = cc
-not_done answer NoMemory is done = cc
+complete_from words None answer old new err_old err_new is report script source = tt
+complete_from {files_fault} {out_fault} words (Some files) answer old new err_old err_new is report script source = λ reads finds no_files no_out.
+    complete_by words files answer script source report.outcome (subst (λ (f : Option Contents). Happens words f files_fault out_fault report.outcome) (sym is) report.happens) report.answers reads finds no_files no_out
 
 -- with a line the answer is not Usage
-not_usage : (words : List (List ℕ)) (files : Option Contents) (files_fault out_fault : Type 0) (answer : Status) (cause : Cause) (path : List ℕ)
-    → IsLine words path → Explains words files files_fault out_fault cause → answer ≡ status_of cause → answer ≡ status.Usage → ⊥
-not_usage words files ff of answer NoLine path line explains is usage = explains path line
-not_usage words files ff of answer (Refuses refusal) path line explains is usage = cc
-not_usage words files ff of answer (ReadingFailed at) path line explains is usage = cc
-not_usage words files ff of answer (WritingFailed at) path line explains is usage = cc
-not_usage words files ff of answer OutputFailed path line explains is usage = cc
-not_usage words files ff of answer NoMemory path line explains is usage = cc
+not_usage : (files_fault out_fault : Type 0) (words : List (List ℕ)) (files : Option Contents) (answer : Status) (outcome : Outcome) (path : List ℕ)
+    → IsLine words path → Happens words files files_fault out_fault outcome → answer ≡ answer_of outcome → answer ≡ status.Usage → ⊥
+not_usage ff of words files answer (Stopped NoLine) path line explains is usage = explains path line
+not_usage ff of words files answer (Stopped (Refuses refusal)) path line explains is usage = cc
+not_usage ff of words files answer (Stopped (ReadingFailed at)) path line explains is usage = cc
+not_usage ff of words files answer (Stopped NoMemory) path line explains is usage = cc
+not_usage ff of words files answer (Came e matched None) path line explains is usage = cc
+not_usage ff of words files answer (Came e matched (Some step)) path line explains is usage = cc
 
-pub no_usage : (words : List (List ℕ)) (files : Option Contents) (files_fault out_fault : Type 0) (answer : Status) (old new : Option (List ℕ))
-    → HasCause words files files_fault out_fault answer old new → (path : List ℕ) → IsLine words path → answer ≡ status.Usage → ⊥
-no_usage words files ff of answer old new (inl done) path line usage = cc
-no_usage words files ff of answer old new (inr (cause, explains, is, front)) path line usage = not_usage words files ff of answer cause path line explains is usage
+pub no_usage : {files_fault out_fault err_fault : Type 0} (words : List (List ℕ)) (answer : Status) (old new : Held) (err_old err_new : Taken)
+    → ReportText words files_fault out_fault err_fault answer old new err_old err_new → (path : List ℕ) → IsLine words path → answer ≡ status.Usage → ⊥
+no_usage {files_fault} {out_fault} words answer old new err_old err_new report path line usage =
+    not_usage files_fault out_fault words old.contents answer report.outcome path line report.happens report.answers usage
 
 -- what is refused is not done, and its words are no faulty command line
-pub refuses_from : (words : List (List ℕ)) (files after : Option Contents) (files_fault out_fault : Type 0) (answer : Status) (old new : Option (List ℕ))
-    → HasCause words files files_fault out_fault answer old new → (answer ≡ status.Done → HasWritten words files after (λ _. ⊤))
+pub refuses_from : {files_fault out_fault err_fault : Type 0} (words : List (List ℕ)) (files after : Option Contents) (answer : Status) (old new : Held) (err_old err_new : Taken)
+    → ReportText words files_fault out_fault err_fault answer old new err_old err_new → (answer ≡ status.Done → HasWritten words files after (λ _. ⊤))
     → (refusal : Refusal) → IfSome files (λ before. IsRefusal words before refusal → (answer ≡ status.Done → ⊥) × (answer ≡ status.Usage → ⊥))
-refuses_from words None after ff of answer old new answers written refusal = tt
-refuses_from words (Some files) after ff of answer old new answers written refusal = λ is.
+refuses_from words None after answer old new err_old err_new report written refusal = tt
+refuses_from words (Some files) after answer old new err_old err_new report written refusal = λ is.
     let line = line_of_refusal words files refusal is in (
       λ done. let w = written done in no_refusal words files w.0.script w.0.source w.1.read.script w.1.read.class refusal is,
-      λ usage. no_usage words (Some files) ff of answer old new answers line.0 line.1 usage,
+      λ usage. no_usage words answer old new err_old err_new report line.0 line.1 usage,
     )
 
--- a stop before the first output
-pub complete_stop : (words : List (List ℕ)) (files : Option Contents) (files_fault out_fault : Type 0) (answer : Status) (stop : Stop)
-    → Stopped words files files_fault ⊥ stop → answer ≡ stop.status → (script : Script) (source : Class)
-    → IfSome files (λ before. ReadsScript words before script → ReadsClass before script source → (files_fault → ⊥) → (out_fault → ⊥) → (answer ≡ status.Done) ⊎ (answer ≡ status.Memory))
-complete_stop words None ff of answer stop stopped is script source = tt
-complete_stop words (Some files) ff of answer stop (cause, explains, tells) is script source = λ reads finds no_files no_out.
-    complete_by words files ff ⊥ answer script source cause explains (is ∙ tells.status) reads finds no_files (λ h. h)
+-- the answers after which something was put or written are not quiet
+pub loud : (answer : Status) → answer ≡ status.Outside → IsQuiet answer → ⊥
+loud answer is (inl refused) = cc
+loud answer is (inr (inl usage)) = cc
+loud answer is (inr (inr memory)) = cc
+
+pub not_done : (answer : Status) → answer ≡ status.Outside → answer ≡ status.Done → ⊥
+not_done answer is done = cc

@@ -150,14 +150,19 @@ module _ (c : Class) (plan : MethodPlan) (at : ℕ) (code : MethodCode) (chosen 
   pub one_choice_each : length chosen ≡ length code.instrs
   one_choice_each = ap length e.choice.chosen_is ∙ length-map e.choice.operations (chosen_fragment plan.rules) ∙ AllZip-long (Resolves c.consts) code.instrs e.choice.operations e.choice.resolved
 
-  -- the new code is of a length that can be written
-  pub new_code_fits : (0 < length (code_bytes (new_instrs chosen code.instrs))) × (length (code_bytes (new_instrs chosen code.instrs)) < 2 ^ 16)
+  -- there is new code: the return at the end stays
+  pub new_code_some : 0 < length (code_bytes (new_instrs chosen code.instrs))
+  new_code_some =
+      let stays = return_stays c.consts plan.rules e.returning.front e.choice.operations
+      (subst (λ l. AllZip (Resolves c.consts) l e.choice.operations) e.returning.last e.choice.resolved) in
+      rw (e.choice.chosen_is, e.returning.last) stays
+
+  -- the new code is no longer than what can be written
+  pub new_code_fits : length (code_bytes (new_instrs chosen code.instrs)) < 2 ^ 16
   new_code_fits =
       let longest = e.code_of.bytes.code.1 in
       let shorter = length-code_bytes-new_instrs chosen code.instrs in
-      let stays = return_stays c.consts plan.rules e.returning.front e.choice.operations
-      (subst (λ l. AllZip (Resolves c.consts) l e.choice.operations) e.returning.last e.choice.resolved) in
-      (rw (e.choice.chosen_is, e.returning.last) stays, omega arith)
+      omega arith
 
 -- The method at the place, once it is edited: its code is the old one's, spliced.
 pub record IsNewMethod (attribute : Attribute) (code : MethodCode) (chosen : List (Option Fragment)) (old new : Member) : Type 0 where
@@ -205,7 +210,7 @@ module _ (one : OneProgram) (c : Class) (plan : MethodPlan) (at : ℕ) (code : M
   }
 
   pub plan_agrees : Laws → PlanAgrees c edited plan
-  unfolding of_edited of_source
+  unfolding of_edited
   plan_agrees laws = record {
     at = at;
     is_planned = e.is_method;

@@ -11,3 +11,4 @@ pub mod Spliced
 pub mod Reserved
 pub mod Causes
 pub mod IndexMap
+pub mod Outputs

@@ -1,24 +1,22 @@
 -- The steps of a run, put together.
 use Rattle.std.proofs.Common.{◌⊎◌, inl, inr, subst, ◌≡◌, ℕ, ◌<◌, ◌≤◌, List, [], ◌∷◌, Option, Some, None, Result, Ok, Err, length, refl, ap, ◌∙◌, arith}
-use Rattle.std.specs.Prelude.{IfOk, IfSome, ⊤}
+use Rattle.std.specs.Prelude.{IfOk, IfSome, ⊤, string_bytes}
 use Rattle.std.specs.List.{AllByRecursion}
 use Rattle.std.specs.Option.{option_map}
 use Rattle.std.specs.FinMap.{insert}
 use Rattle.std.proofs.lemmas.List.Elements.{All-from_recursion}
 use Rattle.je_base.specs.Count.{HasFault}
 use Rattle.je_base.specs.Files.{Contents, KeepsOthers}
-use Rattle.je_base.specs.Sink.{GainsFront}
 use Rattle.je_class.specs.Class.{Class}
 use Rattle.je_class.specs.ClassBytes.{ClassBytes}
+use Rattle.je_session.specs.declared.made.Made.{Made}
 use Rattle.je_session.specs.declared.plan.Script.{Script}
 use Rattle.je_session.specs.Tokens.{IsWordByte}
 use Rattle.je_session.specs.Script.{ScriptForm}
 use Rattle.je_session.specs.Forms.{Holds, IsLine, ClassForm, ReadsScript, class_path, out_path}
-use Rattle.je_session.specs.Edit.{Edit, IsWritten, ReadsBack, HasAsciiNames}
-use Rattle.je_session.specs.Fulfils.{Fulfils, PlansAgree, PlansKeepLines, HasWritten, Stands, IsEdited, IsPrepared}
-use Rattle.je_session.specs.declared.status.Status.{Status}
-use Rattle.je_session.specs.declared.status.Status.TheVariants as status
-use Rattle.je_session.specs.Cause.{Cause, WritingFailed, OutputFailed, IsWrittenPath, Explains, status_of, line_of}
+use Rattle.je_session.specs.Edit.{Edit, IsRead, IsWritten, ReadsBack, CountsMatched, HasAsciiNames}
+use Rattle.je_session.specs.Fulfils.{Fulfils, PlansAgree, PlansKeepLines, HasWritten, Stands, IsEdited}
+use Rattle.je_session.specs.Prepared.{HasLines, IsPrepared}
 
 pub reads_script : (words : List (List ℕ)) (files : Option Contents) (path text : List ℕ) (script : Script)
     → IsLine words path → Holds files path text → length text ≤ 4194304 → ScriptForm text script
@@ -38,25 +36,33 @@ ascii_names text script form =
     let after_void = after_class.6.5.6.6 in
     (All-from_recursion (λ b. b < 128) script.class_name (word_below script.class_name after_class.3.1), All-from_recursion (λ b. b < 128) script.plan.name (word_below script.plan.name after_void.3.1))
 
-pub prepared : (words : List (List ℕ)) (files : Option Contents) (bytes out written : List ℕ) (script : Script) (source edited : Class)
-    → IfSome files (λ before. ReadsScript words before script) → Holds files (class_path script.class_name) bytes
-    → ClassForm script bytes source → IsEdited source script.plan edited → ClassBytes written edited → out ≡ out_path script.class_name
-    → IfSome files (λ before. IsPrepared words before out written)
-prepared words None bytes out written script source edited reads holds form is_edited spelled at = tt
-prepared words (Some files) bytes out written script source edited reads holds form is_edited spelled at = (
-  record { script = script; source = source; bytes = written; edited = edited },
-  record { script = reads; class = record { bytes = bytes; found = holds; is_class = form } },
-  at,
-  refl,
-  record { reads_back = record { bytes = spelled; kept = is_edited.kept }; agree = (is_edited.agrees, tt); lines = (is_edited.lines, tt) },
-)
+both_read : (words : List (List ℕ)) (files : Option Contents) (bytes : List ℕ) (script : Script) (source edited : Class) (written : List ℕ)
+    → IfSome files (λ before. ReadsScript words before script) → Holds files (class_path script.class_name) bytes → ClassForm script bytes source
+    → IfSome files (λ before. IsRead words before (record { script = script; source = source; bytes = written; edited = edited }))
+both_read words None bytes script source edited written reads holds form = tt
+both_read words (Some files) bytes script source edited written reads holds form =
+    record { script = reads; class = record { bytes = bytes; found = holds; is_class = form } }
 
-pub written : (words : List (List ℕ)) (files after : Option Contents) (out bytes : List ℕ)
-    → IfSome files (λ before. IsPrepared words before out bytes) → after ≡ option_map (λ before. insert before out bytes) files
+pub prepared : (words : List (List ℕ)) (files : Option Contents) (bytes : List ℕ) (script : Script) (source edited : Class) (matched : ℕ) (made : Made)
+    → IfSome files (λ before. ReadsScript words before script) → Holds files (class_path script.class_name) bytes
+    → ClassForm script bytes source → IsEdited source script.plan edited → CountsMatched source script.plan matched
+    → ClassBytes made.bytes.items edited → HasLines script matched made → IsPrepared words files made
+prepared words files bytes script source edited matched made reads holds form is_edited counts spelled lines = record {
+  e = record { script = script; source = source; bytes = made.bytes.items; edited = edited };
+  matched = matched;
+  read = both_read words files bytes script source edited made.bytes.items reads holds form;
+  counts = counts;
+  bytes = refl;
+  lines = lines;
+  fulfils = record { reads_back = record { bytes = spelled; kept = is_edited.kept }; agree = (is_edited.agrees, tt); lines = (is_edited.lines, tt) };
+}
+
+pub written : (words : List (List ℕ)) (files after : Option Contents) (made : Made)
+    → IsPrepared words files made → after ≡ option_map (λ before. insert before (string_bytes made.path) made.bytes.items) files
     → IfSome files (λ before. (e : Edit) × IsWritten words before after e × Fulfils e)
-written words None after out bytes p e = tt
-written words (Some files) after out bytes p e =
-    (p.0, record { read = p.1; files = e ∙ ap (λ (path : List ℕ). Some (insert files path bytes)) p.2 ∙ ap (λ (b : List ℕ). Some (insert files (out_path p.0.script.class_name) b)) p.3 }, p.4)
+written words None after made p is = tt
+written words (Some files) after made p is =
+    (p.e, record { read = p.read; files = is ∙ ap (λ (path : List ℕ). Some (insert files path made.bytes.items)) p.lines.path ∙ ap (λ (b : List ℕ). Some (insert files (out_path p.e.script.class_name) b)) p.bytes }, p.fulfils)
 
 -- the parts of what was written
 pub only_written : (words : List (List ℕ)) (files after : Option Contents)
@@ -91,30 +97,19 @@ pub fault_since : (a b c : ℕ) → a ≤ b → HasFault b c → HasFault a c
 fault_since a b c le (inl rose) = inl (omega arith)
 fault_since a b c le (inr last) = inr last
 
-pub writing_cause : {files_fault out_fault : Type 0} (words : List (List ℕ)) (files : Option Contents) (path line : List ℕ) (answer : Status) (old new : Option (List ℕ))
-    → files_fault → IsWrittenPath words files path → answer ≡ status.Outside → line ≡ line_of (WritingFailed path) → GainsFront line old new
-    → (answer ≡ status.Done) ⊎ ((cause : Cause) × Explains words files files_fault out_fault cause × (answer ≡ status_of cause) × GainsFront (line_of cause) old new)
-writing_cause words files path line answer old new fault place is line_is front =
-    inr (WritingFailed path, (fault, place), is, subst (λ (l : List ℕ). GainsFront l old new) line_is front)
-
-pub output_cause : {files_fault out_fault : Type 0} (words : List (List ℕ)) (files : Option Contents) (answer : Status) (old new : Option (List ℕ))
-    → out_fault → (path : List ℕ) × IsLine words path → answer ≡ status.Outside → GainsFront (line_of OutputFailed) old new
-    → (answer ≡ status.Done) ⊎ ((cause : Cause) × Explains words files files_fault out_fault cause × (answer ≡ status_of cause) × GainsFront (line_of cause) old new)
-output_cause words files answer old new fault line is front = inr (OutputFailed, (fault, line), is, front)
-
 -- after a write that failed
-pub stands_open : {files_fault : Type 0} (words : List (List ℕ)) (files after : Option Contents) (path bytes : List ℕ)
-    → files_fault → IfSome files (λ before. IsPrepared words before path bytes) → KeepsOthers path files after → Stands words files files_fault after
-stands_open words None None path bytes fault p keeps = refl
-stands_open words None (Some after) path bytes fault p keeps = absurd keeps
-stands_open words (Some before) after path bytes fault p keeps =
-    inr (inr (fault, (p.0, p.1, subst (λ (at : List ℕ). KeepsOthers at (Some before) after) p.2 keeps)))
+pub stands_open : {files_fault : Type 0} (words : List (List ℕ)) (files after : Option Contents) (made : Made)
+    → files_fault → IsPrepared words files made → KeepsOthers (string_bytes made.path) files after → Stands words files files_fault after
+stands_open words None None made fault p keeps = refl
+stands_open words None (Some after) made fault p keeps = absurd keeps
+stands_open words (Some before) after made fault p keeps =
+    inr (inr (fault, (p.e, p.read, subst (λ (at : List ℕ). KeepsOthers at (Some before) after) p.lines.path keeps)))
 
 -- after a put that failed
-pub stands_put : (files_fault : Type 0) (words : List (List ℕ)) (files after : Option Contents) (path bytes : List ℕ)
-    → IfSome files (λ before. IsPrepared words before path bytes)
-    → (after ≡ files) ⊎ (after ≡ option_map (λ before. insert before path bytes) files) → Stands words files files_fault after
-stands_put files_fault words None after path bytes p (inl same) = same
-stands_put files_fault words None after path bytes p (inr same) = same
-stands_put files_fault words (Some before) after path bytes p (inl same) = inl same
-stands_put files_fault words (Some before) after path bytes p (inr new) = inr (inl (written words (Some before) after path bytes p new))
+pub stands_put : (files_fault : Type 0) (words : List (List ℕ)) (files after : Option Contents) (made : Made)
+    → IsPrepared words files made
+    → (after ≡ files) ⊎ (after ≡ option_map (λ before. insert before (string_bytes made.path) made.bytes.items) files) → Stands words files files_fault after
+stands_put files_fault words None after made p (inl same) = same
+stands_put files_fault words None after made p (inr same) = same
+stands_put files_fault words (Some before) after made p (inl same) = inl same
+stands_put files_fault words (Some before) after made p (inr new) = inr (inl (written words (Some before) after made p new))

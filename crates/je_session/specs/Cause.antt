@@ -1,8 +1,8 @@
--- Why a run did not do its work, the status that tells it, and the line.
+-- Why a run stopped before its output, the status that tells it, and the line.
 use Rattle.std.specs.Prelude.{◌≡◌, ℕ, List, [], ◌∷◌, ◌++◌, codes, Option, Some, None, IfSome, string_bytes, ◌⊎◌}
 use Rattle.std.specs.FinMap.{get}
 use Rattle.je_base.specs.Files.{Contents}
-use Rattle.je_base.specs.Sink.{GainsFront}
+use Rattle.je_base.specs.Shown.{shown}
 use Rattle.je_class.specs.Class.{Class}
 use Rattle.je_session.specs.declared.plan.Script.{Script}
 use Rattle.je_session.specs.declared.report.Line.{Line}
@@ -10,7 +10,7 @@ use Rattle.je_session.specs.declared.report.Line.TheVariants.{Fixed, Made}
 use Rattle.je_session.specs.declared.report.Stop.{Stop}
 use Rattle.je_session.specs.declared.status.Status.{Status}
 use Rattle.je_session.specs.declared.status.Status.TheVariants as status
-use Rattle.je_session.specs.Forms.{IsLine, IsScript, ClassForm, ReadsScript, ReadsClass, class_path, out_path}
+use Rattle.je_session.specs.Forms.{IsLine, IsScript, ClassForm, ReadsScript, ReadsClass, class_path}
 
 -- ---- causes
 
@@ -25,8 +25,6 @@ pub data Cause : Type 0 where
   NoLine : Cause
   Refuses : (refusal : Refusal) → Cause
   ReadingFailed : (path : List ℕ) → Cause
-  WritingFailed : (path : List ℕ) → Cause
-  OutputFailed : Cause
   NoMemory : Cause
 
 -- the refusal is that of these words and files
@@ -45,27 +43,18 @@ abbrev pub IsReadPath : List (List ℕ) → Option Contents → List ℕ → Typ
 IsReadPath words files path =
     IsLine words path ⊎ ((script : Script) × IfSome files (λ before. ReadsScript words before script) × (path ≡ class_path script.class_name))
 
--- where a run writes: the place of its script's class
-abbrev pub IsWrittenPath : List (List ℕ) → Option Contents → List ℕ → Type 0
-IsWrittenPath words files path =
-    (script : Script) × IfSome files (λ before. ReadsScript words before script) × (path ≡ out_path script.class_name)
-
--- What the cause of a stop says of the words, of the files as they were told before, and of the faults of the files and
--- of the standard output. Want of memory shows nothing.
-abbrev pub Explains : List (List ℕ) → Option Contents → Type 0 → Type 0 → Cause → Type 0
-Explains words files files_fault out_fault NoLine = (path : List ℕ) → IsLine words path → ⊥
-Explains words files files_fault out_fault (Refuses refusal) = IfSome files (λ before. IsRefusal words before refusal)
-Explains words files files_fault out_fault (ReadingFailed path) = files_fault × IsReadPath words files path
-Explains words files files_fault out_fault (WritingFailed path) = files_fault × IsWrittenPath words files path
-Explains words files files_fault out_fault OutputFailed = out_fault × ((path : List ℕ) × IsLine words path)
-Explains words files files_fault out_fault NoMemory = Unit {0}
+-- What the cause says of the words, of the files as they were told before, and of the faults of the files. Want of memory
+-- shows nothing.
+abbrev pub Explains : List (List ℕ) → Option Contents → Type 0 → Cause → Type 0
+Explains words files files_fault NoLine = (path : List ℕ) → IsLine words path → ⊥
+Explains words files files_fault (Refuses refusal) = IfSome files (λ before. IsRefusal words before refusal)
+Explains words files files_fault (ReadingFailed path) = files_fault × IsReadPath words files path
+Explains words files files_fault NoMemory = Unit {0}
 
 abbrev pub status_of : Cause → Status
 status_of NoLine = status.Usage
 status_of (Refuses refusal) = status.Refused
 status_of (ReadingFailed path) = status.Outside
-status_of (WritingFailed path) = status.Outside
-status_of OutputFailed = status.Outside
 status_of NoMemory = status.Memory
 
 -- ---- lines
@@ -76,7 +65,7 @@ line_feed = 10 ∷ []
 abbrev pub refusal_line : Refusal → List ℕ
 refusal_line (NoScript path) = codes "no script " ++ (path ++ line_feed)
 refusal_line NotYetScript = codes "not yet script" ++ line_feed
-refusal_line (NoClass name) = codes "no class " ++ (name ++ line_feed)
+refusal_line (NoClass name) = codes "no class " ++ (shown name ++ line_feed)
 refusal_line NotYetClass = codes "not yet class" ++ line_feed
 
 -- the line of a run that stopped
@@ -84,17 +73,9 @@ abbrev pub line_of : Cause → List ℕ
 line_of NoLine = codes "usage: classedit [--path DIRS] [--out DIR] [--mode edit|check|list|gen] SCRIPT" ++ line_feed
 line_of (Refuses refusal) = refusal_line refusal
 line_of (ReadingFailed path) = codes "outside fault: reading " ++ (path ++ line_feed)
-line_of (WritingFailed path) = codes "outside fault: writing " ++ (path ++ line_feed)
-line_of OutputFailed = codes "outside fault: standard output" ++ line_feed
 line_of NoMemory = codes "out of memory" ++ line_feed
 
 -- ---- answers
-
--- The run is done, or it has a cause, whose status it answers and of whose line standard error takes a front.
-abbrev pub HasCause : List (List ℕ) → Option Contents → Type 0 → Type 0 → Status → Option (List ℕ) → Option (List ℕ) → Type 0
-HasCause words files files_fault out_fault answer old new =
-    (answer ≡ status.Done)
-    ⊎ ((cause : Cause) × Explains words files files_fault out_fault cause × (answer ≡ status_of cause) × GainsFront (line_of cause) old new)
 
 -- the answers after which nothing was written and nothing put on standard output
 abbrev pub IsQuiet : Status → Type 0
@@ -105,7 +86,8 @@ abbrev pub IsRefused : List (List ℕ) → Option Contents → Refusal → Statu
 IsRefused words files refusal answer =
     IfSome files (λ before. IsRefusal words before refusal → (answer ≡ status.Done → ⊥) × (answer ≡ status.Usage → ⊥))
 
--- where script and class are read and nothing failed, the run is done, or memory ran out
+-- Where script and class are read and nothing failed, the run is done, or memory ran out. Sizes are no premise so far: an
+-- edit makes nothing larger.
 abbrev pub IsComplete : List (List ℕ) → Option Contents → Type 0 → Type 0 → Script → Class → Status → Type 0
 IsComplete words files files_fault out_fault script source answer =
     IfSome files (λ before. ReadsScript words before script → ReadsClass before script source
@@ -127,9 +109,8 @@ abbrev pub Tells : Cause → Stop → Type 0
 Tells cause stop = TellsCause cause stop ⊎ TellsCause NoMemory stop
 
 -- the stop tells a cause that explains it
-abbrev pub Stopped : List (List ℕ) → Option Contents → Type 0 → Type 0 → Stop → Type 0
-Stopped words files files_fault out_fault stop =
-    (cause : Cause) × Explains words files files_fault out_fault cause × TellsCause cause stop
+abbrev pub Stopped : List (List ℕ) → Option Contents → Type 0 → Stop → Type 0
+Stopped words files files_fault stop = (cause : Cause) × Explains words files files_fault cause × TellsCause cause stop
 
 -- what the cause of a stop at the class of a script says
 abbrev pub ExplainsAtClass : Script → Option Contents → Type 0 → Cause → Type 0

@@ -41,8 +41,3 @@ pub record IsEdited (source : Class) (plan : MethodPlan) (edited : Class) : Type
   pub kept : Kept source (plan ∷ []) edited
   pub agrees : PlanAgrees source edited plan
   pub lines : KeepsLines source edited plan
-
--- what is to be written is the edit of what was read
-abbrev pub IsPrepared : List (List ℕ) → Contents → List ℕ → List ℕ → Type 0
-IsPrepared words before path bytes =
-    (e : Edit) × IsRead words before e × (path ≡ out_path e.script.class_name) × (bytes ≡ e.bytes) × Fulfils e

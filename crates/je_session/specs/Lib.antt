@@ -15,6 +15,8 @@ pub mod Cause
 pub mod Splice
 pub mod Editable
 pub mod Stops
-pub mod Lines
+pub mod Output
+pub mod ReportText
+pub mod Prepared
 pub mod Fulfils
 pub mod Texts

@@ -29,7 +29,8 @@ pub fn edit_method(
     ensures lines { OnOk result (KeepsLines class.old class.new plan.now) }
     ensures matched { IfOk result (CountsMatched class.old plan.now) }
     ensures form { OnOk result (MethodForm class.old plan.now.name) }
-    ensures not_yet { IfErr result (λ e. e ≡ stops.NotYet → MethodForm class.old plan.now.name → ⊥) }
+    ensures not_yet { IfErr result (λ e.
+        e ≡ stops.NotYet → MethodForm class.old plan.now.name → ⊥) }
     ensures err { OnErr result (class.new ≡ class.old) }
 {
     // The laws of the layer below that the proof stands on.

@@ -2,16 +2,17 @@
 
 ghost use Rattle.std.specs.Prelude.{◌≡◌, IfOk, IfErr, string_bytes};
 ghost use Rattle.je_class.specs.ClassBytes.{ClassBytes};
-ghost use Rattle.je_session.specs.Forms.{out_path};
 ghost use Rattle.je_session.specs.Edit.{HasAsciiNames};
 ghost use Rattle.je_session.specs.Cause.{NoMemory, TellsCause};
-ghost use Rattle.je_session.specs.Lines.{HasLines};
+ghost use Rattle.je_session.specs.ReportText.{edited_line};
+ghost use Rattle.je_session.specs.Prepared.{HasLines};
 
-use crate::lines::{class_file, shown};
+use crate::paths::class_file;
 use crate::plan::Script;
 use crate::report::Stop;
+use je_base::Memory;
 use je_class::{ClassFile, write_class};
-use std::alloc::{AllocError, Global};
+use std::alloc::Global;
 
 /// What a run puts and writes.
 #[derive(Debug, Drop)]
@@ -32,8 +33,7 @@ pub struct Made {
 pub fn make(alloc: Global, script: &Script, class: &ClassFile, matched: usize) -> Result<Made, Stop>
     requires { HasAsciiNames script.now }
     ensures bytes { IfOk result (λ made. ClassBytes made.bytes.items class.now) }
-    ensures path { IfOk result (λ made. string_bytes made.path ≡ out_path script.now.class_name) }
-    ensures lines { IfOk result HasLines }
+    ensures lines { IfOk result (HasLines script.now matched) }
     ensures memory { IfErr result (TellsCause NoMemory) }
 {
     let bytes = write_class(alloc, class)?;
@@ -47,10 +47,10 @@ pub fn make(alloc: Global, script: &Script, class: &ClassFile, matched: usize) -
     })
 }
 
-fn edited_line(alloc: Global, script: &Script, matched: usize) -> Result<String, AllocError>
-    requires { HasAsciiNames script.now }
+fn edited_line(alloc: Global, script: &Script, matched: usize) -> Result<String, Memory>
+    ensures { IfOk result (λ line. string_bytes line ≡ edited_line script.now matched) }
 {
-    let class = shown(alloc, script.class_name.bytes())?;
-    let method = shown(alloc, script.plan.name.bytes())?;
-    format!(in alloc; "edited {class}.{method}()V matched {matched}\n")
+    let class = script.class_name.show()?;
+    let method = script.plan.name.show()?;
+    Ok(format!(in alloc; "edited {class}.{method}()V matched {matched}\n")?)
 }

@@ -1,18 +1,17 @@
 //! All that a run does before its first output: it reads, edits, and makes the bytes and the lines.
 
-ghost use Rattle.std.specs.Prelude.{◌≡◌, ℕ, ◌≤◌, List, vec_len, IfOk, IfErr, IfSome, OnOk, string_bytes};
+ghost use Rattle.std.specs.Prelude.{◌≡◌, ℕ, ◌≤◌, List, vec_len, IfOk, IfErr, IfSome, OnOk};
 ghost use Rattle.je_base.specs.Count.{HasFault};
 ghost use Rattle.je_session.specs.Texts.{texts};
 ghost use Rattle.je_session.specs.Forms.{IsLine, Holds, ReadsScript, class_path};
 ghost use Rattle.je_session.specs.Edit.{HasAsciiNames};
-ghost use Rattle.je_session.specs.Fulfils.{IsPrepared};
-ghost use Rattle.je_session.specs.Lines.{HasLines};
-ghost use Rattle.je_session.specs.Cause.{IsWrittenPath, Stopped, StoppedAtClass};
+ghost use Rattle.je_session.specs.Prepared.{IsPrepared};
+ghost use Rattle.je_session.specs.Cause.{Stopped, StoppedAtClass};
 
 use crate::class_edit::edit_class;
-use crate::lines::{class_file, shown};
 use crate::made::{Made, make};
 use crate::parse::parse_script;
+use crate::paths::class_file;
 use crate::plan::Script;
 use crate::reading::{NotRead, read_within};
 use crate::report::Stop;
@@ -29,12 +28,10 @@ const MOST_SCRIPT_BYTES: usize = 4_194_304;
 
 /// Reads the script and its class, edits the class, and makes what is put and written.
 pub fn prepare<F: Files>(alloc: Global, words: &[String], files: &mut F) -> Result<Made, Stop>
-    ensures made { IfOk result (λ made. IfSome (F.contents files.old) (λ before. IsPrepared (texts words.now) before (string_bytes made.path) made.bytes.items)) }
-    ensures stopped { IfErr result (Stopped (texts words.now) (F.contents files.old) (HasFault (F.faults files.old) (F.faults files.new)) ⊥) }
+    ensures made { IfOk result (IsPrepared (texts words.now) (F.contents files.old)) }
+    ensures stopped { IfErr result (Stopped (texts words.now) (F.contents files.old) (HasFault (F.faults files.old) (F.faults files.new))) }
     ensures line { OnOk result ((path : List ℕ) × IsLine (texts words.now) path) }
     ensures no_line { IfErr result (λ stop. ((path : List ℕ) → IsLine (texts words.now) path → ⊥) → stop.status ≡ Status.Usage) }
-    ensures place { IfOk result (λ made. IsWrittenPath (texts words.now) (F.contents files.old) (string_bytes made.path)) }
-    ensures lines { IfOk result HasLines }
     ensures contents { F.contents files.new ≡ F.contents files.old }
     ensures writes { F.writes files.new ≡ F.writes files.old }
     ensures faults { F.faults files.old ≤ F.faults files.new }
@@ -54,7 +51,7 @@ fn read_script<F: Files>(alloc: Global, words: &[String], files: &mut F) -> Resu
     ensures line { OnOk result ((path : List ℕ) × IsLine (texts words.now) path) }
     ensures no_line { IfErr result (λ stop. ((path : List ℕ) → IsLine (texts words.now) path → ⊥) → stop.status ≡ Status.Usage) }
     ensures names { IfOk result HasAsciiNames }
-    ensures stopped { IfErr result (Stopped (texts words.now) (F.contents files.old) (HasFault (F.faults files.old) (F.faults files.new)) ⊥) }
+    ensures stopped { IfErr result (Stopped (texts words.now) (F.contents files.old) (HasFault (F.faults files.old) (F.faults files.new))) }
     ensures contents { F.contents files.new ≡ F.contents files.old }
     ensures writes { F.writes files.new ≡ F.writes files.old }
     ensures faults { F.faults files.old ≤ F.faults files.new }
@@ -90,11 +87,10 @@ fn read_class_bytes<F: Files>(
     ensures writes { F.writes files.new ≡ F.writes files.old }
     ensures faults { F.faults files.old ≤ F.faults files.new }
 {
-    let name = shown(alloc, script.class_name.bytes())?;
     let path = class_file(alloc, "./", script.class_name.bytes())?;
     match read_within(files, path.as_str(), MOST_BYTES) {
         Ok(bytes) => Ok(bytes),
-        Err(NotRead::Missing) => Err(Stop::no_class(alloc, name.as_str())),
+        Err(NotRead::Missing) => Err(Stop::no_class(alloc, &script.class_name)),
         Err(NotRead::TooLong) => Err(Stop::not_yet_class()),
         Err(NotRead::Failed) => Err(Stop::reading(alloc, path.as_str())),
         Err(NotRead::Memory) => Err(Stop::memory()),

@@ -4,7 +4,7 @@ ghost use Rattle.std.specs.Prelude.{◌≡◌, IfOk, OnErr, string_bytes};
 ghost use Rattle.je_session.specs.Cause.{NoScript, NotYetScript, NoClass, NotYetClass, NoLine, Refuses, ReadingFailed, NoMemory, line_bytes, TellsCause, Tells};
 
 use crate::status::Status;
-use je_base::Memory;
+use je_base::{Memory, Text};
 use std::alloc::{AllocError, Global};
 
 /// The line of a run whose words are not those of a command line.
@@ -66,10 +66,13 @@ impl Stop {
     }
 
     /// There is no class of the name.
-    pub fn no_class(alloc: Global, name: &str) -> Stop
+    pub fn no_class(alloc: Global, name: &Text) -> Stop
         ensures { Tells (Refuses (NoClass name.now)) result }
     {
-        Stop::of(Status::Refused, format!(in alloc; "no class {name}\n"))
+        match name.show() {
+            Ok(name) => Stop::of(Status::Refused, format!(in alloc; "no class {name}\n")),
+            Err(Memory) => Stop::memory(),
+        }
     }
 
     /// The class is none of a form that is read.

@@ -1,18 +1,20 @@
 //! The top call.
 
-ghost use Rattle.std.specs.Prelude.{◌≡◌, ℕ, ◌≤◌, ◌⊎◌, ⊤, List, IsErrOf, OnOk, string_bytes};
+ghost use Rattle.std.specs.Prelude.{◌≡◌, ℕ, ◌≤◌, ◌⊎◌, ⊤, List, ◌++◌, Some, None, IsErrOf, OnOk, string_bytes};
 ghost use Rattle.std.specs.Option.{option_map};
 ghost use Rattle.std.specs.FinMap.{insert};
 ghost use Rattle.je_base.specs.Count.{raised, HasFault};
 ghost use Rattle.je_base.specs.Files.{KeepsOthers};
-ghost use Rattle.je_base.specs.Sink.{GainsFront};
 ghost use Rattle.je_class.specs.Class.{Class};
 ghost use Rattle.je_session.specs.declared.plan.Script.{Script};
 ghost use Rattle.je_session.specs.Texts.{texts};
 ghost use Rattle.je_session.specs.Forms.{IsLine};
 ghost use Rattle.je_session.specs.Edit.{ReadsBack};
 ghost use Rattle.je_session.specs.Fulfils.{PlansAgree, PlansKeepLines, HasWritten, Stands};
-ghost use Rattle.je_session.specs.Cause.{Refusal, HasCause, IsQuiet, IsRefused, IsComplete};
+ghost use Rattle.je_session.specs.Cause.{Refusal, IsQuiet, IsRefused, IsComplete};
+ghost use Rattle.je_session.specs.Output.{Put, Write, PutFails, Goes, held, taken, put};
+ghost use Rattle.je_session.specs.ReportText.{ReportText};
+ghost use Rattle.je_session.specs.Prepared.{output};
 
 use crate::made::Made;
 use crate::prepare::prepare;
@@ -43,18 +45,23 @@ pub fn run<F: Files, O: Sink, E: Sink>(
     ensures lines { result ≡ Status.Done →
         HasWritten (texts words.now) (F.contents files.old) (F.contents files.new) PlansKeepLines }
 
-    // A run that is not done has a cause.
-    ensures cause { HasCause (texts words.now) (F.contents files.old)
-        (HasFault (F.faults files.old) (F.faults files.new)) (HasFault (O.faults out.old) (O.faults out.new))
-        result (E.bytes err.old) (E.bytes err.new) }
+    // What happened is what it answers, puts, writes and tells: its cause, if it is not done, and each line.
+    ensures report { ReportText (texts words.now) (HasFault (F.faults files.old) (F.faults files.new))
+        (HasFault (O.faults out.old) (O.faults out.new))
+        (HasFault (E.faults err.old) (E.faults err.new)) result
+        (held (F.contents files.old) (F.writes files.old) (O.bytes out.old) (O.puts out.old))
+        (held (F.contents files.new) (F.writes files.new) (O.bytes out.new) (O.puts out.new))
+        (taken (E.bytes err.old) (E.puts err.old)) (taken (E.bytes err.new) (E.puts err.new)) }
     // Usage is answered exactly where the words are no line.
     ensures usage { ((path : List ℕ) → IsLine (texts words.now) path → ⊥) → result ≡ Status.Usage }
     ensures line { (path : List ℕ) → IsLine (texts words.now) path → result ≡ Status.Usage → ⊥ }
     // What is to be refused is refused, and what is to be done is done, unless something fails.
-    ensures refused { (refusal : Refusal) → IsRefused (texts words.now) (F.contents files.old) refusal result }
-    ensures complete { (script : Script) (source : Class) → IsComplete (texts words.now) (F.contents files.old)
-        (HasFault (F.faults files.old) (F.faults files.new)) (HasFault (O.faults out.old) (O.faults out.new))
-        script source result }
+    ensures refused { (refusal : Refusal) →
+        IsRefused (texts words.now) (F.contents files.old) refusal result }
+    ensures complete { (script : Script) (source : Class) →
+        IsComplete (texts words.now) (F.contents files.old)
+        (HasFault (F.faults files.old) (F.faults files.new))
+        (HasFault (O.faults out.old) (O.faults out.new)) script source result }
 
     // Nothing is written and nothing put where the run stops before its output.
     ensures unwritten { IsQuiet result → F.writes files.new ≡ F.writes files.old }
@@ -86,13 +93,11 @@ enum Fault {
 
 // Puts and writes what was made, and takes no memory.
 fn finish<F: Files, O: Sink>(made: &Made, files: &mut F, out: &mut O) -> Result<(), Fault>
-    ensures written { OnOk result (F.contents files.new ≡ option_map (λ before. insert before (string_bytes made.now.path) made.now.bytes.items) (F.contents files.old)) }
-    ensures once { OnOk result (F.writes files.new ≡ raised (F.writes files.old)) }
-    ensures output { IsErrOf result Fault.Output → (F.contents files.new ≡ F.contents files.old) ⊎ (F.contents files.new ≡ option_map (λ before. insert before (string_bytes made.now.path) made.now.bytes.items) (F.contents files.old)) }
-    ensures output_fault { IsErrOf result Fault.Output → HasFault (O.faults out.old) (O.faults out.new) }
-    ensures writing { IsErrOf result Fault.Writing → KeepsOthers (string_bytes made.now.path) (F.contents files.old) (F.contents files.new) }
+    ensures done { OnOk result (Goes (output made.now) None (held (F.contents files.old) (F.writes files.old) (O.bytes out.old) (O.puts out.old)) (held (F.contents files.new) (F.writes files.new) (O.bytes out.new) (O.puts out.new))) }
+    ensures writing { IsErrOf result Fault.Writing → Goes (output made.now) (Some (Write (string_bytes made.now.path) made.now.bytes.items)) (held (F.contents files.old) (F.writes files.old) (O.bytes out.old) (O.puts out.old)) (held (F.contents files.new) (F.writes files.new) (O.bytes out.new) (O.puts out.new)) }
     ensures writing_fault { IsErrOf result Fault.Writing → HasFault (F.faults files.old) (F.faults files.new) }
-    ensures at_most_once { (F.writes files.new ≡ F.writes files.old) ⊎ (F.writes files.new ≡ raised (F.writes files.old)) }
+    ensures output { IsErrOf result Fault.Output → (piece : List ℕ) × Goes (output made.now) (Some (Put piece)) (held (F.contents files.old) (F.writes files.old) (O.bytes out.old) (O.puts out.old)) (held (F.contents files.new) (F.writes files.new) (O.bytes out.new) (O.puts out.new)) }
+    ensures output_fault { IsErrOf result Fault.Output → HasFault (O.faults out.old) (O.faults out.new) }
     ensures faults { F.faults files.old ≤ F.faults files.new }
 {
     if out.put(made.edited_line.as_bytes()).is_err() {
@@ -110,7 +115,8 @@ fn finish<F: Files, O: Sink>(made: &Made, files: &mut F, out: &mut O) -> Result<
 // Puts a line; a failure of this changes no status.
 fn tell<E: Sink>(status: Status, line: &[u8], err: &mut E) -> Status
     ensures status { result ≡ status }
-    ensures line { GainsFront line.now (E.bytes err.old) (E.bytes err.new) }
+    ensures put { PutFails line.now (taken (E.bytes err.old) (E.puts err.old)) (taken (E.bytes err.new) (E.puts err.new)) }
+    ensures whole { (HasFault (E.faults err.old) (E.faults err.new) → ⊥) → taken (E.bytes err.new) (E.puts err.new) ≡ put line.now (taken (E.bytes err.old) (E.puts err.old)) }
 {
     let _ = err.put(line);
     status

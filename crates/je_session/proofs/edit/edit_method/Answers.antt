@@ -5,7 +5,7 @@ use Rattle.je_session.specs.KeepsLines.{KeepsLines}
 use Rattle.je_session.specs.Kept.{Kept}
 use Rattle.je_session.specs.Splice.{new_instrs}
 use Rattle.je_session.proofs.Simulation.{Laws}
-use Rattle.je_session.proofs.Edited.{form_of_editable, counts_matched, one_choice_each, new_code_fits, unchosen_stays, spliced_agrees}
+use Rattle.je_session.proofs.Edited.{form_of_editable, counts_matched, one_choice_each, new_code_some, new_code_fits, unchosen_stays, spliced_agrees}
 use Rattle.je_session.proofs.edit.edit_method.Goals as goal
 
 pub splice-requires : goal.splice-requires
@@ -13,8 +13,14 @@ splice-requires c =
     let e = c.in_ok-editable.editable in
     ap length c.as_slice-3.ensures ∙ one_choice_each c.args.class.now c.args.plan.now e.at e.code e.chosen c.in_ok-editable.ensures.found ∙ sym (ap length c.as_slice-2.ensures)
 
-pub write_code-requires : goal.write_code-requires
-write_code-requires c =
+pub write_code-requires-clause-some : goal.write_code-requires-clause-some
+write_code-requires-clause-some c =
+    let e = c.in_ok-editable.editable in
+    rw (c.from_vec.ensures, c.in_ok-instrs.ensures, c.as_slice-3.ensures, c.as_slice-2.ensures)
+    (new_code_some c.args.class.now c.args.plan.now e.at e.code e.chosen c.in_ok-editable.ensures.found)
+
+pub write_code-requires-clause-fits : goal.write_code-requires-clause-fits
+write_code-requires-clause-fits c =
     let e = c.in_ok-editable.editable in
     rw (c.from_vec.ensures, c.in_ok-instrs.ensures, c.as_slice-3.ensures, c.as_slice-2.ensures)
     (new_code_fits c.args.class.now c.args.plan.now e.at e.code e.chosen c.in_ok-editable.ensures.found)
