@@ -1,0 +1,11 @@
+pub mod Texts
+pub mod Loop
+pub mod Misfits
+pub mod FieldLemmas
+pub mod EntryLemmas
+pub mod PlaceLemmas
+pub mod SpacedLemmas
+pub mod FaultLemmas
+pub mod ReadLemmas
+pub mod AddLemmas
+pub mod ExactLemmas

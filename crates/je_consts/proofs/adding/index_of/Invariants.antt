@@ -1,0 +1,6 @@
+use Rattle.std.proofs.Common.{◌≡◌, ℕ, ◌+◌, ◌<◌, Some}
+use Rattle.je_consts.specs.Pool.{const_at}
+use Rattle.je_consts.proofs.adding.index_of.Given as goal
+
+abbrev pub invariant-loop-i : goal.invariant-loop-i
+invariant-loop-i l = (i : ℕ) → i < l.i + 1 → const_at l.places i ≡ Some l.entry → ⊥

@@ -1,0 +1,5 @@
+pub mod Pool
+pub mod Layout
+pub mod Reading
+pub mod Faults
+pub mod Adding

@@ -1,0 +1,141 @@
+-- The constant pool as the list of its places, and what its indexes name (JVMS 4.4).
+--
+-- There is a place for each index from 1 on: an entry, or the second of the two indexes of a Long or Double.
+use Rattle.std.specs.Prelude.{◌≡◌, ℕ, zero, suc, ◌+◌, ◌^◌, ◌<◌, ◌≤◌, Bool, true, false, List, [], ◌∷◌, length, Option, Some, None, IsSomeAnd, IfSome, option_and_then, slice_get, FitsSigned}
+use Rattle.std.specs.Option.{option_map}
+use Rattle.std.specs.List.{AllByRecursion}
+use Rattle.std.specs.Int.{w32, w64}
+use Rattle.je_base.specs.Text.{IsModifiedUtf8}
+use Rattle.je_consts.specs.declared.constant.Const.{Const}
+use Rattle.je_consts.specs.declared.constant.Const.TheVariants.{Utf8, Integer, Float, Long, Double, Class, Str, Field, Method, InterfaceMethod, NameAndType, MethodHandle, MethodType, InvokeDynamic}
+use Rattle.je_consts.specs.declared.place.Place.{Place}
+use Rattle.je_consts.specs.declared.place.Place.TheVariants.{Entry, Second}
+
+-- the tag of an entry (JVMS table 4.4-A)
+abbrev pub tag : Const → ℕ
+tag (Utf8 text) = 1
+tag (Integer n) = 3
+tag (Float bits) = 4
+tag (Long n) = 5
+tag (Double bits) = 6
+tag (Class name) = 7
+tag (Str text) = 8
+tag (Field class member) = 9
+tag (Method class member) = 10
+tag (InterfaceMethod class member) = 11
+tag (NameAndType name descriptor) = 12
+tag (MethodHandle kind member) = 15
+tag (MethodType descriptor) = 16
+tag (InvokeDynamic bootstrap member) = 18
+
+-- Long and Double take two indexes (JVMS 4.4.5)
+abbrev pub is_wide : Const → Bool
+is_wide (Long n) = true
+is_wide (Double bits) = true
+is_wide _ = false
+
+-- the places that an entry takes
+abbrev pub taken_by : Bool → Const → List Place
+taken_by true c = Entry c ∷ Second ∷ []
+taken_by false c = Entry c ∷ []
+
+abbrev pub places_of : Const → List Place
+places_of c = taken_by (is_wide c) c
+
+abbrev pub entry_of : Place → Option Const
+entry_of (Entry c) = Some c
+entry_of Second = None
+
+-- the entry at an index, which counts from 1
+abbrev pub const_at : List Place → ℕ → Option Const
+const_at places zero = None
+const_at places (suc i) = option_and_then entry_of (slice_get places i)
+
+-- the tag of the entry at an index
+abbrev pub tag_at : List Place → ℕ → Option ℕ
+tag_at places i = option_map tag (const_at places i)
+
+-- the text of the CONSTANT_Utf8 at an index
+abbrev pub text_of : Const → Option (List ℕ)
+text_of (Utf8 text) = Some text
+text_of _ = None
+
+abbrev pub text_at : List Place → ℕ → Option (List ℕ)
+text_at places i = option_and_then text_of (const_at places i)
+
+-- the name of the CONSTANT_Class at an index
+abbrev pub class_of : List Place → Const → Option (List ℕ)
+class_of places (Class name) = text_at places name
+class_of places _ = None
+
+abbrev pub class_at : List Place → ℕ → Option (List ℕ)
+class_at places i = option_and_then (class_of places) (const_at places i)
+
+-- the CONSTANT_NameAndType at an index names this name and this descriptor
+abbrev pub NamesAndTypes : List Place → ℕ → List ℕ → List ℕ → Type 0
+NamesAndTypes places i name descriptor =
+    (n : ℕ) × (d : ℕ) × (const_at places i ≡ Some (NameAndType n d)) × (text_at places n ≡ Some name) × (text_at places d ≡ Some descriptor)
+
+-- a field, a method or an interface's method
+abbrev pub IsMemberTag : ℕ → Type 0
+IsMemberTag t = (9 ≤ t) × (t ≤ 11)
+
+-- Each index in the entry names an entry of a tag that fits (JVMS 4.4.1 to 4.4.10). The number of a bootstrap method
+-- is no index of the pool.
+abbrev pub Names : List Place → Const → Type 0
+Names places (Class name) = tag_at places name ≡ Some 1
+Names places (Str text) = tag_at places text ≡ Some 1
+Names places (Field class member) = (tag_at places class ≡ Some 7) × (tag_at places member ≡ Some 12)
+Names places (Method class member) = (tag_at places class ≡ Some 7) × (tag_at places member ≡ Some 12)
+Names places (InterfaceMethod class member) = (tag_at places class ≡ Some 7) × (tag_at places member ≡ Some 12)
+Names places (NameAndType name descriptor) = (tag_at places name ≡ Some 1) × (tag_at places descriptor ≡ Some 1)
+Names places (MethodHandle kind member) = IsSomeAnd (tag_at places member) IsMemberTag
+Names places (MethodType descriptor) = tag_at places descriptor ≡ Some 1
+Names places (InvokeDynamic bootstrap member) = tag_at places member ≡ Some 12
+Names places _ = Unit {0}
+
+-- Each number of the entry fits the bytes that it is written in, a text has at most 65,535 bytes and is in modified
+-- UTF-8 (JVMS 4.4.7), and a kind is 1 to 9 (JVMS 4.4.8).
+abbrev pub Fits : Const → Type 0
+Fits (Utf8 text) = (length text < 2 ^ 16) × IsModifiedUtf8 text
+Fits (Integer n) = FitsSigned w32 n
+Fits (Float bits) = bits < 2 ^ 32
+Fits (Long n) = FitsSigned w64 n
+Fits (Double bits) = bits < 2 ^ 64
+Fits (Class name) = name < 2 ^ 16
+Fits (Str text) = text < 2 ^ 16
+Fits (Field class member) = (class < 2 ^ 16) × (member < 2 ^ 16)
+Fits (Method class member) = (class < 2 ^ 16) × (member < 2 ^ 16)
+Fits (InterfaceMethod class member) = (class < 2 ^ 16) × (member < 2 ^ 16)
+Fits (NameAndType name descriptor) = (name < 2 ^ 16) × (descriptor < 2 ^ 16)
+Fits (MethodHandle kind member) = ((1 ≤ kind) × (kind ≤ 9)) × (member < 2 ^ 16)
+Fits (MethodType descriptor) = descriptor < 2 ^ 16
+Fits (InvokeDynamic bootstrap member) = (bootstrap < 2 ^ 16) × (member < 2 ^ 16)
+
+-- what holds of the entry at a place
+abbrev pub OfEntry : (Const → Type 0) → Place → Type 0
+OfEntry P (Entry c) = P c
+OfEntry P Second = Unit {0}
+
+-- the place is that of a Long or Double
+abbrev pub leads_second : Place → Bool
+leads_second (Entry c) = is_wide c
+leads_second Second = false
+
+-- A Second stands exactly after each Long and Double. `wide` says that one stands before these places.
+abbrev pub IsSpaced : Bool → List Place → Type 0
+IsSpaced wide [] = wide ≡ false
+IsSpaced wide (Entry c ∷ places) = (wide ≡ false) × IsSpaced (is_wide c) places
+IsSpaced wide (Second ∷ places) = (wide ≡ true) × IsSpaced false places
+
+-- The places of a constant pool (JVMS 4.4). The count in the file is one more than their number (JVMS 4.1).
+pub record IsPool (places : List Place) : Type 0 where
+  pub fits : AllByRecursion (OfEntry Fits) places
+  pub spaced : IsSpaced false places
+  pub names : AllByRecursion (OfEntry (Names places)) places
+  pub count : length places + 1 < 2 ^ 16
+
+-- the least index whose entry names one that does not fit
+pub record IsLeastMisfit (places : List Place) (index : ℕ) : Type 0 where
+  pub misfit : IsSomeAnd (const_at places index) (λ c. Names places c → ⊥)
+  pub before : (i : ℕ) → i < index → IfSome (const_at places i) (Names places)

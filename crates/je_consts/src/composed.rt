@@ -1,0 +1,84 @@
+//! Texts, classes and members, added with all that they name.
+
+ghost use Rattle.std.specs.Prelude.{◌≡◌, ◌≤◌, Some, length, IfOk};
+ghost use Rattle.je_consts.specs.Adding.{Adds, AddsClass, AddsNameAndType, AddsMember, NamesMember, Keeps, member_of};
+ghost use Rattle.je_consts.specs.Pool.{const_at, class_at, NamesAndTypes};
+
+use crate::constant::{Const, MemberTag};
+use crate::consts::Consts;
+use crate::fault::PoolStop;
+use je_base::Text;
+
+/// The entry of a field or method.
+fn member_of(kind: MemberTag, class: u16, member: u16) -> Const
+    ensures { result ≡ member_of kind class member }
+{
+    match kind {
+        MemberTag::Field => Const::Field(class, member),
+        MemberTag::Method => Const::Method(class, member),
+        MemberTag::InterfaceMethod => Const::InterfaceMethod(class, member),
+    }
+}
+
+impl Consts {
+    /// Adds a text of at most 65,535 bytes. Errors are those of `add`.
+    pub fn add_text(&mut self, t: &Text) -> Result<u16, PoolStop>
+        requires { length t.now ≤ 65535 }
+        ensures adds { Adds (Const.Utf8 t.now) self.old result self.new }
+        ensures there { IfOk result (λ index. const_at self.new index ≡ Some (Const.Utf8 t.now)) }
+        ensures keeps { Keeps self.old self.new }
+    {
+        let text = t.copy()?;
+        self.add(Const::Utf8(text))
+    }
+
+    /// Adds a name of at most 65,535 bytes, and then the class of this name.
+    ///
+    /// Errors are those of `add`. After one the name may stand.
+    pub fn add_class(&mut self, name: &Text) -> Result<u16, PoolStop>
+        requires { length name.now ≤ 65535 }
+        ensures adds { AddsClass name.now self.old result self.new }
+        ensures there { IfOk result (λ index. class_at self.new index ≡ Some name.now) }
+        ensures keeps { Keeps self.old self.new }
+    {
+        let text = self.add_text(name)?;
+        self.add(Const::Class(text))
+    }
+
+    /// Adds a name and a descriptor, and then both together.
+    fn add_name_and_type(&mut self, name: &Text, descriptor: &Text) -> Result<u16, PoolStop>
+        requires name { length name.now ≤ 65535 }
+        requires descriptor { length descriptor.now ≤ 65535 }
+        ensures adds { AddsNameAndType name.now descriptor.now self.old result self.new }
+        ensures there { IfOk result (λ index.
+            NamesAndTypes self.new index name.now descriptor.now) }
+        ensures keeps { Keeps self.old self.new }
+    {
+        let name = self.add_text(name)?;
+        let descriptor = self.add_text(descriptor)?;
+        self.add(Const::NameAndType(name, descriptor))
+    }
+
+    /// Adds the class of a field or method, its name and descriptor, and then the member itself.
+    ///
+    /// Each text has at most 65,535 bytes. Errors are those of `add`. After one, what was added before stands.
+    pub fn add_member(
+        &mut self,
+        kind: MemberTag,
+        owner: &Text,
+        name: &Text,
+        descriptor: &Text,
+    ) -> Result<u16, PoolStop>
+        requires owner { length owner.now ≤ 65535 }
+        requires name { length name.now ≤ 65535 }
+        requires descriptor { length descriptor.now ≤ 65535 }
+        ensures adds { AddsMember kind owner.now name.now descriptor.now self.old result self.new }
+        ensures there { IfOk result (λ index.
+            NamesMember kind self.new index owner.now name.now descriptor.now) }
+        ensures keeps { Keeps self.old self.new }
+    {
+        let class = self.add_class(owner)?;
+        let member = self.add_name_and_type(name, descriptor)?;
+        self.add(member_of(kind, class, member))
+    }
+}

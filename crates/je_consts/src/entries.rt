@@ -1,0 +1,187 @@
+//! The entries of a constant pool, each read behind its tag (JVMS 4.4).
+
+ghost use Rattle.std.specs.Int.{w16, w32, w64};
+ghost use Rattle.je_consts.specs.Reading.{Gives, integer_of, long_of, text_from, one_at, two_at, utf8_at, handle_at, info_at, entry_at};
+
+use crate::constant::Const;
+use crate::fault::ConstFault;
+use crate::fields::{run_at, u8_at, u16_at, u32_at, u64_at};
+use je_base::Text;
+use std::alloc::Global;
+
+/// The text of these bytes, which the entry of this index has.
+fn text_of(alloc: Global, index: u16, bytes: &[u8]) -> Result<Text, ConstFault>
+    ensures { Gives (λ text. text) result (text_from index bytes.now) }
+{
+    match Text::from_bytes(alloc, bytes)? {
+        Some(text) => Ok(text),
+        None => Err(ConstFault::BadConst(index)),
+    }
+}
+
+#[tactic(auto, unfolding(crate::specs::Reading::utf8_at))]
+fn utf8_of(alloc: Global, index: u16, bytes: &[u8], at: usize) -> Result<(Const, usize), ConstFault>
+    ensures { Gives (λ x. x) result (utf8_at index bytes.now at) }
+{
+    let (len, at) = u16_at(bytes, at)?;
+    let (run, at) = run_at(len as usize, bytes, at)?;
+    let text = text_of(alloc, index, run)?;
+    Ok((Const::Utf8(text), at))
+}
+
+#[tactic(auto, unfolding(crate::specs::Reading::one_at))]
+fn integer_of(bytes: &[u8], at: usize) -> Result<(Const, usize), ConstFault>
+    ensures { Gives (λ x. x) result (one_at w32 integer_of bytes.now at) }
+{
+    let (number, at) = u32_at(bytes, at)?;
+    Ok((Const::Integer(number.cast_signed()), at))
+}
+
+#[tactic(auto, unfolding(crate::specs::Reading::one_at))]
+fn float_of(bytes: &[u8], at: usize) -> Result<(Const, usize), ConstFault>
+    ensures { Gives (λ x. x) result (one_at w32 Const.Float bytes.now at) }
+{
+    let (bits, at) = u32_at(bytes, at)?;
+    Ok((Const::Float(bits), at))
+}
+
+#[tactic(auto, unfolding(crate::specs::Reading::one_at))]
+fn long_of(bytes: &[u8], at: usize) -> Result<(Const, usize), ConstFault>
+    ensures { Gives (λ x. x) result (one_at w64 long_of bytes.now at) }
+{
+    let (number, at) = u64_at(bytes, at)?;
+    Ok((Const::Long(number.cast_signed()), at))
+}
+
+#[tactic(auto, unfolding(crate::specs::Reading::one_at))]
+fn double_of(bytes: &[u8], at: usize) -> Result<(Const, usize), ConstFault>
+    ensures { Gives (λ x. x) result (one_at w64 Const.Double bytes.now at) }
+{
+    let (bits, at) = u64_at(bytes, at)?;
+    Ok((Const::Double(bits), at))
+}
+
+#[tactic(auto, unfolding(crate::specs::Reading::one_at))]
+fn class_of(bytes: &[u8], at: usize) -> Result<(Const, usize), ConstFault>
+    ensures { Gives (λ x. x) result (one_at w16 Const.Class bytes.now at) }
+{
+    let (name, at) = u16_at(bytes, at)?;
+    Ok((Const::Class(name), at))
+}
+
+#[tactic(auto, unfolding(crate::specs::Reading::one_at))]
+fn string_of(bytes: &[u8], at: usize) -> Result<(Const, usize), ConstFault>
+    ensures { Gives (λ x. x) result (one_at w16 Const.Str bytes.now at) }
+{
+    let (text, at) = u16_at(bytes, at)?;
+    Ok((Const::Str(text), at))
+}
+
+#[tactic(auto, unfolding(crate::specs::Reading::two_at))]
+fn field_of(bytes: &[u8], at: usize) -> Result<(Const, usize), ConstFault>
+    ensures { Gives (λ x. x) result (two_at Const.Field bytes.now at) }
+{
+    let (class, at) = u16_at(bytes, at)?;
+    let (member, at) = u16_at(bytes, at)?;
+    Ok((Const::Field(class, member), at))
+}
+
+#[tactic(auto, unfolding(crate::specs::Reading::two_at))]
+fn method_of(bytes: &[u8], at: usize) -> Result<(Const, usize), ConstFault>
+    ensures { Gives (λ x. x) result (two_at Const.Method bytes.now at) }
+{
+    let (class, at) = u16_at(bytes, at)?;
+    let (member, at) = u16_at(bytes, at)?;
+    Ok((Const::Method(class, member), at))
+}
+
+#[tactic(auto, unfolding(crate::specs::Reading::two_at))]
+fn interface_method_of(bytes: &[u8], at: usize) -> Result<(Const, usize), ConstFault>
+    ensures { Gives (λ x. x) result (two_at Const.InterfaceMethod bytes.now at) }
+{
+    let (class, at) = u16_at(bytes, at)?;
+    let (member, at) = u16_at(bytes, at)?;
+    Ok((Const::InterfaceMethod(class, member), at))
+}
+
+#[tactic(auto, unfolding(crate::specs::Reading::two_at))]
+fn name_and_type_of(bytes: &[u8], at: usize) -> Result<(Const, usize), ConstFault>
+    ensures { Gives (λ x. x) result (two_at Const.NameAndType bytes.now at) }
+{
+    let (name, at) = u16_at(bytes, at)?;
+    let (descriptor, at) = u16_at(bytes, at)?;
+    Ok((Const::NameAndType(name, descriptor), at))
+}
+
+#[tactic(auto, unfolding(crate::specs::Reading::handle_at, crate::specs::Reading::one_at))]
+fn handle_of(index: u16, bytes: &[u8], at: usize) -> Result<(Const, usize), ConstFault>
+    ensures { Gives (λ x. x) result (handle_at index bytes.now at) }
+{
+    let (kind, at) = u8_at(bytes, at)?;
+    if !(1..=9).contains(&kind) {
+        return Err(ConstFault::BadConst(index));
+    }
+    let (member, at) = u16_at(bytes, at)?;
+    Ok((Const::MethodHandle(kind, member), at))
+}
+
+#[tactic(auto, unfolding(crate::specs::Reading::one_at))]
+fn method_type_of(bytes: &[u8], at: usize) -> Result<(Const, usize), ConstFault>
+    ensures { Gives (λ x. x) result (one_at w16 Const.MethodType bytes.now at) }
+{
+    let (descriptor, at) = u16_at(bytes, at)?;
+    Ok((Const::MethodType(descriptor), at))
+}
+
+#[tactic(auto, unfolding(crate::specs::Reading::two_at))]
+fn invoke_dynamic_of(bytes: &[u8], at: usize) -> Result<(Const, usize), ConstFault>
+    ensures { Gives (λ x. x) result (two_at Const.InvokeDynamic bytes.now at) }
+{
+    let (bootstrap, at) = u16_at(bytes, at)?;
+    let (member, at) = u16_at(bytes, at)?;
+    Ok((Const::InvokeDynamic(bootstrap, member), at))
+}
+
+/// What stands behind the tag of the entry of this index.
+#[tactic(auto, unfolding(crate::specs::Reading::info_at))]
+fn info_of(
+    alloc: Global,
+    index: u16,
+    tag: u8,
+    bytes: &[u8],
+    at: usize,
+) -> Result<(Const, usize), ConstFault>
+    ensures { Gives (λ x. x) result (info_at index tag bytes.now at) }
+{
+    match tag {
+        1 => utf8_of(alloc, index, bytes, at),
+        3 => integer_of(bytes, at),
+        4 => float_of(bytes, at),
+        5 => long_of(bytes, at),
+        6 => double_of(bytes, at),
+        7 => class_of(bytes, at),
+        8 => string_of(bytes, at),
+        9 => field_of(bytes, at),
+        10 => method_of(bytes, at),
+        11 => interface_method_of(bytes, at),
+        12 => name_and_type_of(bytes, at),
+        15 => handle_of(index, bytes, at),
+        16 => method_type_of(bytes, at),
+        18 => invoke_dynamic_of(bytes, at),
+        _ => Err(ConstFault::BadConst(index)),
+    }
+}
+
+/// The entry of this index, and the offset after it.
+#[tactic(auto, unfolding(crate::specs::Reading::entry_at))]
+pub(crate) fn entry_of(
+    alloc: Global,
+    index: u16,
+    bytes: &[u8],
+    at: usize,
+) -> Result<(Const, usize), ConstFault>
+    ensures { Gives (λ x. x) result (entry_at index bytes.now at) }
+{
+    let (tag, at) = u8_at(bytes, at)?;
+    info_of(alloc, index, tag, bytes, at)
+}

@@ -1,0 +1,63 @@
+//! What the indexes of a constant pool name (JVMS 4.4).
+
+ghost use Rattle.std.specs.Prelude.{◌≡◌, ◌↔◌, IsTrue, Some};
+ghost use Rattle.std.specs.Option.{option_copied};
+ghost use Rattle.je_consts.specs.Pool.{tag, const_at, tag_at};
+
+use crate::constant::Const;
+use crate::place::Place;
+
+/// The tag of an entry (JVMS table 4.4-A).
+pub(crate) fn tag_of(entry: &Const) -> u8
+    ensures { result ≡ tag entry.now }
+{
+    match entry {
+        Const::Utf8(_) => 1,
+        Const::Integer(_) => 3,
+        Const::Float(_) => 4,
+        Const::Long(_) => 5,
+        Const::Double(_) => 6,
+        Const::Class(_) => 7,
+        Const::Str(_) => 8,
+        Const::Field(..) => 9,
+        Const::Method(..) => 10,
+        Const::InterfaceMethod(..) => 11,
+        Const::NameAndType(..) => 12,
+        Const::MethodHandle(..) => 15,
+        Const::MethodType(_) => 16,
+        Const::InvokeDynamic(..) => 18,
+    }
+}
+
+/// The entry at an index, from 1.
+pub(crate) fn const_at(places: &[Place], index: u16) -> Option<&Const>
+    ensures { option_copied result ≡ const_at places.now index }
+{
+    if index == 0 {
+        return None;
+    }
+    match places.get(index as usize - 1) {
+        Some(Place::Entry(entry)) => Some(entry),
+        _ => None,
+    }
+}
+
+/// The tag of the entry at an index.
+pub(crate) fn tag_at(places: &[Place], index: u16) -> Option<u8>
+    ensures { result ≡ tag_at places.now index }
+{
+    match const_at(places, index) {
+        Some(entry) => Some(tag_of(entry)),
+        None => None,
+    }
+}
+
+/// Whether the entry at an index has this tag.
+pub(crate) fn has_tag(places: &[Place], index: u16, tag: u8) -> bool
+    ensures { IsTrue result ↔ (tag_at places.now index ≡ Some tag) }
+{
+    match tag_at(places, index) {
+        Some(found) => found == tag,
+        None => false,
+    }
+}

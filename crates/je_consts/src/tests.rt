@@ -1,0 +1,163 @@
+ghost use Rattle.std.specs.Prelude.{◌≡◌, IfOk};
+
+use super::*;
+use je_base::Text;
+use std::test::*;
+
+/// The pool of a class `A`, whose method `m` calls `A.f`, behind the magic number and the version of its file.
+const CLASS: [u8; 70] = [
+    0xca, 0xfe, 0xba, 0xbe, 0x00, 0x00, 0x00, 0x31, 0x00, 0x0b, 0x01, 0x00, 0x01, 0x41, 0x07, 0x00,
+    0x01, 0x01, 0x00, 0x10, 0x6a, 0x61, 0x76, 0x61, 0x2f, 0x6c, 0x61, 0x6e, 0x67, 0x2f, 0x4f, 0x62,
+    0x6a, 0x65, 0x63, 0x74, 0x07, 0x00, 0x03, 0x01, 0x00, 0x01, 0x6d, 0x01, 0x00, 0x03, 0x28, 0x29,
+    0x56, 0x01, 0x00, 0x04, 0x43, 0x6f, 0x64, 0x65, 0x01, 0x00, 0x01, 0x66, 0x0c, 0x00, 0x08, 0x00,
+    0x06, 0x0a, 0x00, 0x02, 0x00, 0x09,
+];
+
+/// A pool with an entry of each tag.
+const TAGS: [u8; 82] = [
+    0x00, 0x11, 0x01, 0x00, 0x01, 0x61, 0x03, 0xff, 0xff, 0xff, 0xfe, 0x04, 0x3f, 0x80, 0x00, 0x00,
+    0x05, 0xff, 0xff, 0xff, 0xff, 0xff, 0xff, 0xff, 0xfd, 0x06, 0x3f, 0xf0, 0x00, 0x00, 0x00, 0x00,
+    0x00, 0x00, 0x07, 0x00, 0x01, 0x08, 0x00, 0x01, 0x0c, 0x00, 0x01, 0x00, 0x01, 0x09, 0x00, 0x08,
+    0x00, 0x0a, 0x0a, 0x00, 0x08, 0x00, 0x0a, 0x0b, 0x00, 0x08, 0x00, 0x0a, 0x0f, 0x01, 0x00, 0x0b,
+    0x10, 0x00, 0x01, 0x12, 0x00, 0x07, 0x00, 0x0a, 0x00, 0x00, 0x00, 0x00, 0x00, 0x00, 0x00, 0x00,
+    0x00, 0x00,
+];
+
+fn class_pool(rt: &HostRuntime) -> Result<Consts, Fail> {
+    match Consts::read(rt.alloc(), &CLASS, 8) {
+        Ok((consts, 70)) => Ok(consts),
+        Ok(_) => Err("another end".into()),
+        Err(_) => Err("no pool".into()),
+    }
+}
+
+fn text(rt: &HostRuntime, bytes: &[u8]) -> Result<Text, Fail>
+    ensures { IfOk result (λ t. t ≡ bytes.now) }
+{
+    match Text::from_bytes(rt.alloc(), bytes) {
+        Ok(Some(text)) => Ok(text),
+        _ => Err("no text".into()),
+    }
+}
+
+#[test]
+fn read_copied_and_written(rt: HostRuntime) -> Result<(), Fail> {
+    let consts = class_pool(&rt)?;
+    assert_eq!(rt; consts.count(), 11);
+    let copy = consts.copy()?;
+    let written = copy.write()?;
+    assert_eq!(rt; written.as_slice(), &CLASS[8..]);
+    Ok(())
+}
+
+#[test]
+fn each_tag(rt: HostRuntime) -> Result<(), Fail> {
+    let consts = match Consts::read(rt.alloc(), &TAGS, 0) {
+        Ok((consts, 72)) => consts,
+        _ => return Err("no pool".into()),
+    };
+    assert!(rt; matches!(consts.get(2), Some(Const::Integer(-2))));
+    assert!(rt; matches!(consts.get(3), Some(Const::Float(0x3f80_0000))));
+    assert!(rt; matches!(consts.get(4), Some(Const::Long(-3))));
+    assert!(rt; matches!(consts.get(14), Some(Const::MethodHandle(1, 11))));
+    assert!(rt; matches!(consts.get(16), Some(Const::InvokeDynamic(7, 10))));
+    for index in [0, 5, 7, 17] {
+        assert!(rt; consts.get(index).is_none(), "at {index}");
+    }
+    let written = consts.write()?;
+    assert_eq!(rt; written.as_slice(), &TAGS[..72]);
+    Ok(())
+}
+
+#[test]
+fn faults(rt: HostRuntime) -> Result<(), Fail> {
+    let table: [(&[u8], usize, ConstFault); 18] = [
+        (b"\x09\x09\x00", 2, ConstFault::Truncated(2)),
+        (b"\x00\x00", 0, ConstFault::BadConst(0)),
+        (b"\x00\x02", 0, ConstFault::Truncated(2)),
+        (b"\x00\x02\x07\x00", 0, ConstFault::Truncated(3)),
+        (b"\x00\x02\x09\x00\x01\x00", 0, ConstFault::Truncated(5)),
+        (b"\x00\x02\x01\x00\x03a", 0, ConstFault::Truncated(5)),
+        (b"\x00\x03\x05\x00\x00", 0, ConstFault::Truncated(3)),
+        (b"\x00\x02\x0f", 0, ConstFault::Truncated(3)),
+        (b"\x00\x02\x0f\x09\x00", 0, ConstFault::Truncated(4)),
+        (b"\x00\x02\x02", 0, ConstFault::BadConst(1)),
+        (b"\x00\x02\x01\x00\x01\x00", 0, ConstFault::BadConst(1)),
+        (b"\x00\x02\x0f\x00", 0, ConstFault::BadConst(1)),
+        (b"\x00\x02\x0f\x0a", 0, ConstFault::BadConst(1)),
+        (b"\x00\x02\x05\0\0\0\0\0\0\0\0", 0, ConstFault::BadConst(1)),
+        (
+            b"\x00\x03\x03\0\0\0\0\x07\x00\x01",
+            0,
+            ConstFault::BadConst(2),
+        ),
+        (
+            b"\x00\x03\x07\x00\x02\x07\x00\x01",
+            0,
+            ConstFault::BadConst(1),
+        ),
+        (b"\x00\x03\x07\x00\x01\x02", 0, ConstFault::BadConst(2)),
+        (b"\x00\x02\x12\x00\x00\x00\x05", 0, ConstFault::BadConst(1)),
+    ];
+    for (bytes, at, fault) in table {
+        if at <= bytes.len() {
+            let read = Consts::read(rt.alloc(), bytes, at);
+            assert!(rt;
+                matches!(&read, Err(found) if *found == fault),
+                "at {bytes:?}"
+            );
+        }
+    }
+    Ok(())
+}
+
+#[test]
+fn added(rt: HostRuntime) -> Result<(), Fail> {
+    let mut consts = class_pool(&rt)?;
+    assert_eq!(rt; consts.add(Const::Integer(5)), Ok(11));
+    assert_eq!(rt; consts.add(Const::Long(5)), Ok(12));
+    assert_eq!(rt; consts.add(Const::Integer(5)), Ok(11));
+    assert_eq!(rt; consts.add(Const::Integer(6)), Ok(14));
+    assert_eq!(rt; consts.count(), 15);
+    Ok(())
+}
+
+#[test]
+fn added_with_texts(rt: HostRuntime) -> Result<(), Fail> {
+    let mut consts = class_pool(&rt)?;
+    let code = text(&rt, b"Code")?;
+    assert_eq!(rt; consts.add_text(&code), Ok(7));
+    let owner = text(&rt, b"A")?;
+    assert_eq!(rt; consts.add_class(&owner), Ok(2));
+    let name = text(&rt, b"f")?;
+    let descriptor = text(&rt, b"()V")?;
+    assert_eq!(rt;
+        consts.add_member(MemberTag::Method, &owner, &name, &descriptor),
+        Ok(10)
+    );
+    assert_eq!(rt; consts.count(), 11);
+    assert_eq!(rt;
+        consts.add_member(MemberTag::Field, &owner, &name, &descriptor),
+        Ok(11)
+    );
+    Ok(())
+}
+
+#[test]
+fn full(rt: HostRuntime) -> Result<(), Fail> {
+    let mut bytes = Vec::from_slice(rt.alloc(), b"\xff\xff\x03\x00\x00\x00\x07")?;
+    for _ in 1..65_534 {
+        bytes.extend_from_slice(b"\x01\x00\x00")?;
+    }
+    let mut consts = match Consts::read(rt.alloc(), &bytes, 0) {
+        Ok((consts, _)) => consts,
+        Err(_) => return Err("no pool".into()),
+    };
+    assert_eq!(rt; consts.count(), 65_535);
+    assert_eq!(rt; consts.add(Const::Integer(5)), Err(PoolStop::Full(65_536)));
+    assert_eq!(rt; consts.add(Const::Long(5)), Err(PoolStop::Full(65_537)));
+    assert_eq!(rt; consts.add(Const::Integer(7)), Ok(1));
+    let empty = text(&rt, b"")?;
+    assert_eq!(rt; consts.add_text(&empty), Ok(2));
+    Ok(())
+}

@@ -1,0 +1,86 @@
+//! The bytes of a constant pool (JVMS 4.1 and 4.4).
+
+ghost use Rattle.std.specs.Prelude.{◌≡◌, ◌+◌, ◌^◌, ◌<◌, ◌++◌, length, IfOk, OnOk};
+ghost use Rattle.std.specs.List.{AllByRecursion};
+ghost use Rattle.je_consts.specs.Layout.{u2, const_layout, place_layout, entries_layout, pool_layout};
+ghost use Rattle.je_consts.specs.Pool.{Fits, OfEntry};
+
+use crate::constant::Const;
+use crate::lookup::tag_of;
+use crate::place::Place;
+use je_base::{Memory, Text};
+use std::alloc::Global;
+
+fn put_u16(out: &mut Vec<u8>, n: u16) -> Result<(), Memory>
+    ensures { OnOk result (out.new.items ≡ out.old.items ++ u2 n) }
+{
+    out.extend_from_slice(&n.to_be_bytes())?;
+    Ok(())
+}
+
+fn put_two(out: &mut Vec<u8>, first: u16, second: u16) -> Result<(), Memory>
+    ensures { OnOk result (out.new.items ≡ out.old.items ++ (u2 first ++ u2 second)) }
+{
+    put_u16(out, first)?;
+    put_u16(out, second)
+}
+
+fn put_text(out: &mut Vec<u8>, text: &Text) -> Result<(), Memory>
+    requires { length text.now < 2 ^ 16 }
+    ensures { OnOk result (out.new.items ≡ out.old.items ++ (u2 (length text.now) ++ text.now)) }
+{
+    let bytes = text.bytes();
+    put_u16(out, bytes.len() as u16)?;
+    out.extend_from_slice(bytes)?;
+    Ok(())
+}
+
+/// A tag, and what it says.
+fn put_const(out: &mut Vec<u8>, entry: &Const) -> Result<(), Memory>
+    requires { Fits entry.now }
+    ensures { OnOk result (out.new.items ≡ out.old.items ++ const_layout entry.now) }
+{
+    out.push(tag_of(entry))?;
+    match entry {
+        Const::Utf8(text) => put_text(out, text)?,
+        Const::Integer(n) => out.extend_from_slice(&n.to_be_bytes())?,
+        Const::Float(bits) => out.extend_from_slice(&bits.to_be_bytes())?,
+        Const::Long(n) => out.extend_from_slice(&n.to_be_bytes())?,
+        Const::Double(bits) => out.extend_from_slice(&bits.to_be_bytes())?,
+        Const::Class(text) | Const::Str(text) | Const::MethodType(text) => put_u16(out, *text)?,
+        Const::Field(first, second)
+        | Const::Method(first, second)
+        | Const::InterfaceMethod(first, second)
+        | Const::NameAndType(first, second)
+        | Const::InvokeDynamic(first, second) => put_two(out, *first, *second)?,
+        Const::MethodHandle(kind, member) => {
+            out.push(*kind)?;
+            put_u16(out, *member)?;
+        }
+    }
+    Ok(())
+}
+
+fn put_place(out: &mut Vec<u8>, place: &Place) -> Result<(), Memory>
+    requires { OfEntry Fits place.now }
+    ensures { OnOk result (out.new.items ≡ out.old.items ++ place_layout place.now) }
+{
+    match place {
+        Place::Entry(entry) => put_const(out, entry),
+        Place::Second => Ok(()),
+    }
+}
+
+/// The count and the entries.
+pub(crate) fn bytes_of(alloc: Global, places: &[Place]) -> Result<Vec<u8>, Memory>
+    requires count { length places.now + 1 < 2 ^ 16 }
+    requires each { AllByRecursion (OfEntry Fits) places.now }
+    ensures { IfOk result (λ v. v.items ≡ pool_layout places.now) }
+{
+    let mut out = Vec::new(alloc);
+    put_u16(&mut out, places.len() as u16 + 1)?;
+    for place in places {
+        put_place(&mut out, place)?;
+    }
+    Ok(out)
+}
