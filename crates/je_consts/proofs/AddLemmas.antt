@@ -1,10 +1,9 @@
 -- Places with more behind them: what the indexes hold, and what the entries name.
-use Rattle.std.proofs.Common.{◌≡◌, ℕ, zero, suc, ◌+◌, ◌^◌, ◌≤◌, ◌<◌, List, [], ◌∷◌, ◌++◌, length, Some, IsSomeAnd, Bool, true, false, add-one, refl, sym, ap, ◌∙◌, append_assoc, arith, length-append, inl, inr}
+use Rattle.std.proofs.Common.{◌≡◌, ℕ, zero, suc, ◌+◌, ◌^◌, ◌≤◌, ◌<◌, List, [], ◌∷◌, ◌++◌, length, Some, IsSomeAnd, Bool, true, false, add-one, refl, ap, ◌∙◌, append_assoc, arith, length-append, inl, inr}
 use Rattle.std.specs.Prelude.{Option, Result, Ok, Err, IfOk, slice_get, option_and_then}
 use Rattle.std.specs.Option.{option_map}
 use Rattle.std.specs.List.{AllByRecursion}
 use Rattle.std.proofs.lemmas.Bool.{cases_lt}
-use Rattle.std.proofs.lemmas.List.{append-nil}
 use Rattle.je_consts.specs.declared.constant.Const.{Const}
 use Rattle.je_consts.specs.declared.constant.Const.TheVariants.{Utf8, Integer, Float, Long, Double, Class, Str, Field, Method, InterfaceMethod, NameAndType, MethodHandle, MethodType, InvokeDynamic}
 use Rattle.je_consts.specs.declared.constant.MemberTag.{MemberTag}
@@ -13,7 +12,7 @@ use Rattle.je_consts.specs.declared.fault.PoolStop.{PoolStop}
 use Rattle.je_consts.specs.declared.place.Place.{Place}
 use Rattle.je_consts.specs.declared.place.Place.TheVariants.{Entry, Second}
 use Rattle.je_consts.specs.Pool.{tag, is_wide, taken_by, places_of, entry_of, const_at, tag_at, text_of, text_at, class_of, class_at, NamesAndTypes, IsMemberTag, Names, Fits, OfEntry, IsPool}
-use Rattle.je_consts.specs.Adding.{IsLeastIndex, IsFull, Keeps, member_of, NamesMember}
+use Rattle.je_consts.specs.Adding.{IsLeastIndex, Keeps, member_of, NamesMember}
 use Rattle.je_consts.proofs.SpacedLemmas.{All-append, IsSpaced-append, IsSpaced-places_of, All-places_of}
 
 -- ---- searching

@@ -9,3 +9,4 @@ pub mod FaultLemmas
 pub mod ReadLemmas
 pub mod AddLemmas
 pub mod ExactLemmas
+pub mod OneAnswer

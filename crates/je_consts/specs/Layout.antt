@@ -54,6 +54,14 @@ place_layout Second = []
 abbrev pub entries_layout : List Place → List ℕ
 entries_layout places = flat_map place_layout places
 
+-- a count, and that many structures (JVMS 4)
+abbrev pub table : {A : Type 0} → (A → List ℕ) → List A → List ℕ
+table layout items = u2 (length items) ++ flat_map layout items
+
+-- attribute_info (JVMS 4.7): the index of its name, and its bytes behind their length
+abbrev pub attribute_info : ℕ → List ℕ → List ℕ
+attribute_info name bytes = u2 name ++ (u4 (length bytes) ++ bytes)
+
 -- constant_pool_count and constant_pool (JVMS 4.1)
 abbrev pub pool_layout : List Place → List ℕ
 pool_layout places = u2 (length places + 1) ++ entries_layout places

@@ -7,17 +7,17 @@ ghost use Rattle.je_consts.specs.declared.place.Place.{Place};
 ghost use Rattle.je_consts.specs.Adding.{IsLawful, IsFull, Adds, Keeps};
 ghost use Rattle.je_consts.specs.Faults.{FirstFault};
 ghost use Rattle.je_consts.specs.Layout.{pool_layout, IsPoolAt};
-ghost use Rattle.je_consts.specs.Pool.{const_at, Names, IsPool};
+ghost use Rattle.je_consts.specs.Pool.{const_at, text_at, class_at, Names, IsPool};
 
 use crate::adding::add_to;
 use crate::constant::Const;
 use crate::copying::copy_places;
 use crate::fault::{ConstFault, PoolStop};
-use crate::lookup::const_at;
+use crate::lookup::{class_at, const_at, text_at};
 use crate::place::Place;
 use crate::reading::pool_of;
 use crate::writing::bytes_of;
-use je_base::Memory;
+use je_base::{Memory, Text};
 use std::alloc::Global;
 use std::marker::Model;
 
@@ -80,6 +80,20 @@ impl Consts {
         ensures { option_copied result ≡ const_at self.now index }
     {
         const_at(&self.places, index)
+    }
+
+    /// The text of the CONSTANT_Utf8 at an index (JVMS 4.4.7); `None` where no Utf8 stands there.
+    pub fn text(&self, index: u16) -> Option<&Text>
+        ensures { option_copied result ≡ text_at self.now index }
+    {
+        text_at(&self.places, index)
+    }
+
+    /// The name of the CONSTANT_Class at an index (JVMS 4.4.1); `None` where no Class stands there.
+    pub fn class_name(&self, index: u16) -> Option<&Text>
+        ensures { option_copied result ≡ class_at self.now index }
+    {
+        class_at(&self.places, index)
     }
 
     /// The count as the file has it: one more than the number of indexes, and at most 65,535.

@@ -13,6 +13,7 @@ mod copying;
 mod entries;
 mod fault;
 mod fields;
+mod laws;
 mod lookup;
 mod place;
 mod reading;
@@ -22,6 +23,7 @@ mod writing;
 pub use constant::{Const, MemberTag};
 pub use consts::Consts;
 pub use fault::{ConstFault, PoolStop};
+pub use laws::one_pool;
 
 #[cfg(test)]
 mod tests;

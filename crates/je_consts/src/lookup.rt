@@ -2,10 +2,11 @@
 
 ghost use Rattle.std.specs.Prelude.{◌≡◌, ◌↔◌, IsTrue, Some};
 ghost use Rattle.std.specs.Option.{option_copied};
-ghost use Rattle.je_consts.specs.Pool.{tag, const_at, tag_at};
+ghost use Rattle.je_consts.specs.Pool.{tag, const_at, text_at, class_at, tag_at};
 
 use crate::constant::Const;
 use crate::place::Place;
+use je_base::Text;
 
 /// The tag of an entry (JVMS table 4.4-A).
 pub(crate) fn tag_of(entry: &Const) -> u8
@@ -59,5 +60,25 @@ pub(crate) fn has_tag(places: &[Place], index: u16, tag: u8) -> bool
     match tag_at(places, index) {
         Some(found) => found == tag,
         None => false,
+    }
+}
+
+/// The text of the Utf8 at an index.
+pub(crate) fn text_at(places: &[Place], index: u16) -> Option<&Text>
+    ensures { option_copied result ≡ text_at places.now index }
+{
+    match const_at(places, index) {
+        Some(Const::Utf8(text)) => Some(text),
+        _ => None,
+    }
+}
+
+/// The name of the Class at an index.
+pub(crate) fn class_at(places: &[Place], index: u16) -> Option<&Text>
+    ensures { option_copied result ≡ class_at places.now index }
+{
+    match const_at(places, index) {
+        Some(Const::Class(name)) => text_at(places, *name),
+        _ => None,
     }
 }

@@ -44,6 +44,9 @@ fn text(rt: &HostRuntime, bytes: &[u8]) -> Result<Text, Fail>
 fn read_copied_and_written(rt: HostRuntime) -> Result<(), Fail> {
     let consts = class_pool(&rt)?;
     assert_eq!(rt; consts.count(), 11);
+    assert!(rt; matches!(consts.text(1), Some(text) if text.bytes() == b"A".as_slice()));
+    assert!(rt; matches!(consts.class_name(2), Some(name) if name.bytes() == b"A".as_slice()));
+    assert!(rt; consts.text(2).is_none() && consts.class_name(1).is_none());
     let copy = consts.copy()?;
     let written = copy.write()?;
     assert_eq!(rt; written.as_slice(), &CLASS[8..]);

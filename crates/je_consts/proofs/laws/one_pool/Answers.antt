@@ -1,0 +1,11 @@
+use Rattle.je_consts.proofs.OneAnswer.{same_pool, pool_no_fault, one_fault}
+use Rattle.je_consts.proofs.laws.one_pool.Goals as goal
+
+pub returns-clause-same : goal.returns-clause-same
+returns-clause-same c = same_pool
+
+pub returns-clause-no_fault : goal.returns-clause-no_fault
+returns-clause-no_fault c = pool_no_fault
+
+pub returns-clause-one_fault : goal.returns-clause-one_fault
+returns-clause-one_fault c = one_fault
