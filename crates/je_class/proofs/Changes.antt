@@ -1,13 +1,13 @@
 -- A class of which one method's attribute has other bytes.
-use Rattle.std.proofs.Common.{◌≡◌, ℕ, zero, suc, ◌^◌, ◌<◌, List, [], ◌∷◌, length, Option, Some, None, refl, sym, ap, ◌∙◌}
+use Rattle.std.proofs.Common.{◌≡◌, ℕ, zero, suc, ◌^◌, ◌<◌, List, [], ◌∷◌, ◌++◌, length, Option, Some, None, refl, sym, ap, ◌∙◌}
 use Rattle.std.specs.Prelude.{slice_get, slice_set, IsSomeAnd}
 use Rattle.std.specs.List.{AllByRecursion}
-use Rattle.je_class.specs.declared.constant.Const.{Const}
+use Rattle.je_consts.specs.declared.place.Place.{Place}
 use Rattle.je_class.specs.declared.member.Attribute.{Attribute}
 use Rattle.je_class.specs.declared.member.Member.{Member}
-use Rattle.je_class.specs.Class.{Class, IsMethod, IsAttribute, changed_at, with_bytes, with_attribute, with_method_attribute}
-use Rattle.je_class.specs.Layout.{FitsAttribute, FitsMember}
-use Rattle.je_class.specs.Parts.{IsSound}
+use Rattle.je_class.specs.Class.{Class, changed_at, with_bytes, with_attribute, with_method_attribute}
+use Rattle.je_class.specs.FileParts.{Part, IsSoundPart, each, table_parts, interface_parts, attribute_parts, field_parts, method_parts, IsSound}
+use Rattle.je_class.proofs.Alls.{all_split, all_join}
 
 pub changed_at-slice_set : {A : Type 0} (at : ℕ) (f : A → A) (xs : List A) (x : A) → slice_get xs at ≡ Some x → changed_at at f xs ≡ slice_set xs at (f x)
 changed_at-slice_set at f [] x e = absurd cc
@@ -19,57 +19,45 @@ length-changed_at at f [] = refl
 length-changed_at zero f (x ∷ xs) = refl
 length-changed_at (suc at) f (x ∷ xs) = ap suc (length-changed_at at f xs)
 
-AllByRecursion-changed_at : {A : Type 0} (P : A → Type 0) (at : ℕ) (f : A → A) (xs : List A) → ((x : A) → P x → P (f x)) → AllByRecursion P xs → AllByRecursion P (changed_at at f xs)
-AllByRecursion-changed_at P at f [] keeps h = tt
-AllByRecursion-changed_at P zero f (x ∷ xs) keeps h = (keeps x h.0, h.1)
-AllByRecursion-changed_at P (suc at) f (x ∷ xs) keeps h = (h.0, AllByRecursion-changed_at P at f xs keeps h.1)
+module _ {A : Type 0} (P : Part → Type 0) (parts : A → List Part) (f : A → A) (keeps : (x : A) → AllByRecursion P (parts x) → AllByRecursion P (parts (f x))) where
+  each-changed_at : (at : ℕ) (xs : List A) → AllByRecursion P (each parts xs) → AllByRecursion P (each parts (changed_at at f xs))
+  each-changed_at at [] h = tt
+  each-changed_at zero (x ∷ xs) h =
+      let s = all_split P (parts x) (each parts xs) h in
+      all_join P (parts (f x)) (each parts xs) (keeps x s.0) s.1
+  each-changed_at (suc at) (x ∷ xs) h =
+      let s = all_split P (parts x) (each parts xs) h in
+      all_join P (parts x) (each parts (changed_at at f xs)) s.0 (each-changed_at at xs s.1)
 
-IsMethod-with_attribute : (consts : List Const) (at : ℕ) (bytes : List ℕ) (m : Member) → IsMethod consts m → IsMethod consts (with_attribute at bytes m)
-IsMethod-with_attribute consts at bytes m h = record {
-  name = h.name;
-  descriptor = h.descriptor;
-  attributes = AllByRecursion-changed_at (IsAttribute consts) at (with_bytes bytes) m.attributes (λ a named. named) h.attributes;
-}
+module _ (consts : List Place) where
+  abbrev Sound : List Part → Type 0
+  Sound parts = AllByRecursion (IsSoundPart consts) parts
 
-FitsMember-with_attribute : (at : ℕ) (bytes : List ℕ) (m : Member) → length bytes < 2 ^ 32 → FitsMember m → FitsMember (with_attribute at bytes m)
-FitsMember-with_attribute at bytes m lt h = record {
-  access = h.access;
-  name = h.name;
-  descriptor = h.descriptor;
-  count = rw (length-changed_at at (with_bytes bytes) m.attributes) h.count;
-  attributes = AllByRecursion-changed_at FitsAttribute at (with_bytes bytes) m.attributes (λ a fits. record { name = fits.name; bytes = lt }) h.attributes;
-}
+  sound_table : {A : Type 0} (parts : A → List Part) (f : A → A) → ((x : A) → Sound (parts x) → Sound (parts (f x))) → (at : ℕ) (xs : List A)
+      → Sound (table_parts parts xs) → Sound (table_parts parts (changed_at at f xs))
+  sound_table parts f keeps at xs h =
+      let count : length (changed_at at f xs) < 2 ^ 16 = rw (length-changed_at at f xs) h.0.0 in
+      ((count, tt), each-changed_at (IsSoundPart consts) parts f keeps at xs h.1)
+
+  sound_method : (at : ℕ) (bytes : List ℕ) → length bytes < 2 ^ 32 → (m : Member) → Sound (method_parts m) → Sound (method_parts (with_attribute at bytes m))
+  sound_method at bytes lt m h =
+      (h.0, (h.1.0, (h.1.1.0, sound_table attribute_parts (with_bytes bytes) (λ a s. (s.0, ((lt, tt), (tt, tt)))) at m.attributes h.1.1.1)))
 
 pub IsSound-with_method_attribute : (method attribute : ℕ) (bytes : List ℕ) (c : Class) → length bytes < 2 ^ 32 → IsSound c → IsSound (with_method_attribute method attribute bytes c)
-IsSound-with_method_attribute method attribute bytes c lt (names, fits) =
-    let change = with_attribute attribute bytes in
-    let are_methods = AllByRecursion-changed_at (IsMethod c.consts) method change c.methods (λ m h. IsMethod-with_attribute c.consts attribute bytes m h) names.methods in
-    let fitting = AllByRecursion-changed_at FitsMember method change c.methods (λ m h. FitsMember-with_attribute attribute bytes m lt h) fits.methods.1 in
-    let count : length (changed_at method change c.methods) < 2 ^ 16 = rw (length-changed_at method change c.methods) fits.methods.0 in (
-      record {
-        version = names.version;
-        consts = names.consts;
-        this_class = names.this_class;
-        super_class = names.super_class;
-        interfaces = names.interfaces;
-        fields = names.fields;
-        methods = are_methods;
-        attributes = names.attributes;
-      },
-      record {
-        minor = fits.minor;
-        major = fits.major;
-        count = fits.count;
-        consts = fits.consts;
-        access = fits.access;
-        this_class = fits.this_class;
-        super_class = fits.super_class;
-        interfaces = fits.interfaces;
-        fields = fits.fields;
-        methods = (count, fitting);
-        attributes = fits.attributes;
-      },
-    )
+IsSound-with_method_attribute method attribute bytes c lt sound =
+    let h = sound.parts in
+    let P = IsSoundPart c.consts in
+    let interfaces = table_parts interface_parts c.interfaces in
+    let fields = table_parts field_parts c.fields in
+    let methods = table_parts method_parts c.methods in
+    let attributes = table_parts attribute_parts c.attributes in
+    let changed = table_parts method_parts (changed_at method (with_attribute attribute bytes) c.methods) in
+    let a = all_split P interfaces (fields ++ (methods ++ attributes)) h.1.1.1.1.1.1.1 in
+    let b = all_split P fields (methods ++ attributes) a.1 in
+    let d = all_split P methods attributes b.1 in
+    let new = sound_table c.consts method_parts (with_attribute attribute bytes) (sound_method c.consts attribute bytes lt) method c.methods d.0 in
+    let rest = all_join P interfaces (fields ++ (changed ++ attributes)) a.0 (all_join P fields (changed ++ attributes) b.0 (all_join P changed attributes new d.1)) in
+    record { parts = (h.0, (h.1.0, (h.1.1.0, (h.1.1.1.0, (h.1.1.1.1.0, (h.1.1.1.1.1.0, (h.1.1.1.1.1.1.0, rest))))))) }
 
 -- a value of which P holds
 pub IsSomeAnd-value : {A : Type 0} (o : Option A) (P : A → Type 0) → IsSomeAnd o P → (x : A) × (o ≡ Some x) × P x

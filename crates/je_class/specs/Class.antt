@@ -1,18 +1,17 @@
 -- A class file as a record (JVMS 4.1), and what its indexes name.
-use Rattle.std.specs.Prelude.{◌≡◌, ℕ, zero, suc, ◌<◌, ◌≤◌, ◌⊎◌, List, [], ◌∷◌, codes, Option, Some, None, IsSome, IfSome, IsSomeAnd, option_and_then, slice_get}
-use Rattle.std.specs.List.{AllByRecursion}
-use Rattle.je_base.specs.Text.{IsModifiedUtf8}
-use Rattle.je_class.specs.declared.constant.Const.{Const}
-use Rattle.je_class.specs.declared.constant.Const.TheVariants.{Utf8, Class as ClassInfo, Method, NameAndType}
+use Rattle.std.specs.Prelude.{◌≡◌, ℕ, zero, suc, ◌+◌, ◌<◌, ◌≤◌, ◌⊎◌, List, [], ◌∷◌, Some, IsSome, IfSome, IsSomeAnd, slice_get, IsBitSet}
+use Rattle.je_consts.specs.declared.place.Place.{Place}
+use Rattle.je_consts.specs.Pool.{text_at, class_at}
 use Rattle.je_class.specs.declared.member.Attribute.{Attribute}
 use Rattle.je_class.specs.declared.member.Member.{Member}
 use Rattle.je_desc.specs.Names.{IsClassName}
+use Rattle.je_desc.specs.Descriptor.{MethodDescriptor}
 
 -- the items of a ClassFile structure, in the order of the file; the magic number and the counts follow from them
 pub record Class : Type 0 where
   pub minor : ℕ
   pub major : ℕ
-  pub consts : List Const
+  pub consts : List Place
   pub access : ℕ
   pub this_class : ℕ
   pub super_class : ℕ
@@ -21,78 +20,21 @@ pub record Class : Type 0 where
   pub methods : List Member
   pub attributes : List Attribute
 
--- the entry of the constant pool at an index, which counts from 1 (JVMS 4.4)
-abbrev pub const_at : List Const → ℕ → Option Const
-const_at consts zero = None
-const_at consts (suc i) = slice_get consts i
-
-abbrev pub text_of : Const → Option (List ℕ)
-text_of (Utf8 text) = Some text
-text_of _ = None
-
--- the text of the CONSTANT_Utf8_info at an index
-abbrev pub text_at : List Const → ℕ → Option (List ℕ)
-text_at consts i = option_and_then text_of (const_at consts i)
-
-abbrev pub class_of : List Const → Const → Option (List ℕ)
-class_of consts (ClassInfo name) = text_at consts name
-class_of consts _ = None
-
--- the name of the CONSTANT_Class_info at an index
-abbrev pub class_at : List Const → ℕ → Option (List ℕ)
-class_at consts i = option_and_then (class_of consts) (const_at consts i)
-
--- a name and a descriptor
-abbrev pub name_and_type_of : List Const → Const → Option (List ℕ × List ℕ)
-name_and_type_of consts (NameAndType name descriptor) =
-    option_and_then (λ n. option_and_then (λ d. Some (n, d)) (text_at consts descriptor)) (text_at consts name)
-name_and_type_of consts _ = None
-
--- the name and the descriptor of the CONSTANT_NameAndType_info at an index
-abbrev pub name_and_type_at : List Const → ℕ → Option (List ℕ × List ℕ)
-name_and_type_at consts i = option_and_then (name_and_type_of consts) (const_at consts i)
-
--- an entry whose indexes name entries of the tags that JVMS 4.4 asks for, and whose text is modified UTF-8
-abbrev pub IsConst : List Const → Const → Type 0
-IsConst consts (Utf8 text) = IsModifiedUtf8 text
-IsConst consts (ClassInfo name) = IsSome (text_at consts name)
-IsConst consts (Method class member) = IsSome (class_at consts class) × IsSome (name_and_type_at consts member)
-IsConst consts (NameAndType name descriptor) = IsSome (text_at consts name) × IsSome (text_at consts descriptor)
-
 -- the index of a class that is no array
-abbrev pub IsClassIndex : List Const → ℕ → Type 0
+abbrev pub IsClassIndex : List Place → ℕ → Type 0
 IsClassIndex consts i = IsSomeAnd (class_at consts i) IsClassName
 
--- an attribute whose name is a text
-abbrev pub IsAttribute : List Const → Attribute → Type 0
-IsAttribute consts a = IsSome (text_at consts a.name)
+-- the index of a text
+abbrev pub IsTextIndex : List Place → ℕ → Type 0
+IsTextIndex consts i = IsSome (text_at consts i)
 
--- A method (JVMS 4.6). Methods are read with the descriptor `()V` alone so far.
-pub record IsMethod (consts : List Const) (m : Member) : Type 0 where
-  pub name : IsSome (text_at consts m.name)
-  pub descriptor : text_at consts m.descriptor ≡ Some (codes "()V")
-  pub attributes : AllByRecursion (IsAttribute consts) m.attributes
-
--- The names that a class file's indexes have to be of, and the versions that are read. Fields are not read yet.
-pub record IsClass (c : Class) : Type 0 where
-  pub version : (49 ≤ c.major) × (c.major ≤ 52)
-  pub consts : AllByRecursion (IsConst c.consts) c.consts
-  pub this_class : IsClassIndex c.consts c.this_class
-  pub super_class : (c.super_class ≡ 0) ⊎ IsClassIndex c.consts c.super_class
-  pub interfaces : AllByRecursion (IsClassIndex c.consts) c.interfaces
-  pub fields : c.fields ≡ []
-  pub methods : AllByRecursion (IsMethod c.consts) c.methods
-  pub attributes : AllByRecursion (IsAttribute c.consts) c.attributes
-
--- the forms that are read so far: version 49, with no interface, field or class attribute
-pub record IsFirstForm (c : Class) : Type 0 where
-  pub major : c.major ≡ 49
-  pub interfaces : c.interfaces ≡ []
-  pub fields : c.fields ≡ []
-  pub attributes : c.attributes ≡ []
+-- The descriptor of a method with these access flags. Its parameters have at most 255 units, and `this` is one of them
+-- unless the method is static (JVMS 4.3.3).
+abbrev pub IsDescriptorOf : ℕ → List ℕ → Type 0
+IsDescriptorOf access text = (n : ℕ) × MethodDescriptor text n × (IsBitSet access 3 ⊎ (n + 1 ≤ 255))
 
 -- the method has this name and this descriptor
-pub record IsNamed (consts : List Const) (name descriptor : List ℕ) (m : Member) : Type 0 where
+pub record IsNamed (consts : List Place) (name descriptor : List ℕ) (m : Member) : Type 0 where
   pub name_is : text_at consts m.name ≡ Some name
   pub descriptor_is : text_at consts m.descriptor ≡ Some descriptor
 

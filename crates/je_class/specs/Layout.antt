@@ -1,76 +1,46 @@
--- The bytes of a class file's structures, part after part (JVMS 4.1 and 4.4 to 4.7). Numbers are big-endian.
-use Rattle.std.specs.Prelude.{ℕ, ◌+◌, ◌^◌, ◌<◌, List, ◌∷◌, ◌++◌, length}
-use Rattle.std.specs.List.{flat_map, AllByRecursion}
-use Rattle.std.specs.Int.{w16, w32, to_be_bytes}
-use Rattle.je_class.specs.declared.constant.Const.{Const}
-use Rattle.je_class.specs.declared.constant.Const.TheVariants.{Utf8, Class as ClassInfo, Method, NameAndType}
+-- The bytes of a class file, structure after structure (JVMS 4.1 and 4.5 to 4.7), as they are put.
+use Rattle.std.specs.Prelude.{ℕ, ◌^◌, ◌<◌, List, ◌++◌, length}
+use Rattle.std.specs.List.{AllByRecursion}
+use Rattle.je_consts.specs.Layout.{u2, u4, table, attribute_info, pool_layout}
 use Rattle.je_class.specs.declared.member.Attribute.{Attribute}
 use Rattle.je_class.specs.declared.member.Member.{Member}
 use Rattle.je_class.specs.Class.{Class}
 
-abbrev pub u2 : ℕ → List ℕ
-u2 n = to_be_bytes w16 n
-
-abbrev pub u4 : ℕ → List ℕ
-u4 n = to_be_bytes w32 n
-
--- a count, and that many structures
-abbrev pub table : {A : Type 0} → (A → List ℕ) → List A → List ℕ
-table layout items = u2 (length items) ++ flat_map layout items
-
--- cp_info (JVMS 4.4): a tag, and what the tag says
-abbrev pub const_layout : Const → List ℕ
-const_layout (Utf8 text) = 1 ∷ (u2 (length text) ++ text)
-const_layout (ClassInfo name) = 7 ∷ u2 name
-const_layout (Method class member) = 10 ∷ (u2 class ++ u2 member)
-const_layout (NameAndType name descriptor) = 12 ∷ (u2 name ++ u2 descriptor)
-
 -- attribute_info (JVMS 4.7)
 abbrev pub attribute_layout : Attribute → List ℕ
-attribute_layout a = u2 a.name ++ (u4 (length a.bytes) ++ a.bytes)
+attribute_layout a = attribute_info a.name a.bytes
 
 -- field_info and method_info (JVMS 4.5 and 4.6)
 abbrev pub member_layout : Member → List ℕ
 member_layout m = u2 m.access ++ (u2 m.name ++ (u2 m.descriptor ++ table attribute_layout m.attributes))
 
--- ClassFile (JVMS 4.1)
+-- ClassFile (JVMS 4.1) up to its constant pool, its next three numbers, and its tables
+abbrev pub head_layout : Class → List ℕ
+head_layout c = u4 0xcafe_babe ++ (u2 c.minor ++ (u2 c.major ++ pool_layout c.consts))
+
+abbrev pub numbers_layout : Class → List ℕ
+numbers_layout c = u2 c.access ++ (u2 c.this_class ++ u2 c.super_class)
+
+abbrev pub tables_layout : Class → List ℕ
+tables_layout c = table u2 c.interfaces ++ (table member_layout c.fields ++ (table member_layout c.methods ++ table attribute_layout c.attributes))
+
 abbrev pub class_layout : Class → List ℕ
-class_layout c =
-    u4 0xcafe_babe ++ (u2 c.minor ++ (u2 c.major
-    ++ (u2 (length c.consts + 1) ++ (flat_map const_layout c.consts
-    ++ (u2 c.access ++ (u2 c.this_class ++ (u2 c.super_class
-    ++ (table u2 c.interfaces ++ (table member_layout c.fields ++ (table member_layout c.methods ++ table attribute_layout c.attributes))))))))))
+class_layout c = head_layout c ++ (numbers_layout c ++ tables_layout c)
 
--- what has a layout: each number, count and length fits the bytes that it is written in
-abbrev pub FitsConst : Const → Type 0
-FitsConst (Utf8 text) = length text < 2 ^ 16
-FitsConst (ClassInfo name) = name < 2 ^ 16
-FitsConst (Method class member) = (class < 2 ^ 16) × (member < 2 ^ 16)
-FitsConst (NameAndType name descriptor) = (name < 2 ^ 16) × (descriptor < 2 ^ 16)
+-- ---- what has such bytes
 
-pub record FitsAttribute (a : Attribute) : Type 0 where
-  pub name : a.name < 2 ^ 16
-  pub bytes : length a.bytes < 2 ^ 32
-
-pub record FitsMember (m : Member) : Type 0 where
-  pub access : m.access < 2 ^ 16
-  pub name : m.name < 2 ^ 16
-  pub descriptor : m.descriptor < 2 ^ 16
-  pub count : length m.attributes < 2 ^ 16
-  pub attributes : AllByRecursion FitsAttribute m.attributes
-
+-- the count fits its two bytes, and each item fits
 abbrev pub FitsTable : {A : Type 0} → (A → Type 0) → List A → Type 0
-FitsTable Fits items = (length items < 2 ^ 16) × AllByRecursion Fits items
+FitsTable Fits xs = (length xs < 2 ^ 16) × AllByRecursion Fits xs
+
+abbrev pub FitsAttribute : Attribute → Type 0
+FitsAttribute a = length a.bytes < 2 ^ 32
+
+abbrev pub FitsMember : Member → Type 0
+FitsMember m = FitsTable FitsAttribute m.attributes
 
 pub record FitsClass (c : Class) : Type 0 where
-  pub minor : c.minor < 2 ^ 16
-  pub major : c.major < 2 ^ 16
-  pub count : length c.consts + 1 < 2 ^ 16
-  pub consts : AllByRecursion FitsConst c.consts
-  pub access : c.access < 2 ^ 16
-  pub this_class : c.this_class < 2 ^ 16
-  pub super_class : c.super_class < 2 ^ 16
-  pub interfaces : FitsTable (λ i. i < 2 ^ 16) c.interfaces
+  pub interfaces : length c.interfaces < 2 ^ 16
   pub fields : FitsTable FitsMember c.fields
   pub methods : FitsTable FitsMember c.methods
   pub attributes : FitsTable FitsAttribute c.attributes

@@ -1,5 +1,10 @@
 pub mod Class
-pub mod Layout
+pub mod FileParts
 pub mod ClassBytes
-pub mod Parts
+pub mod Faults
+pub mod InMemory
+pub mod Layout
+pub mod Summed
+pub mod Words
+pub mod Signatures
 pub mod Reading

@@ -1,136 +1,141 @@
-//! Whether the indexes of a class file name what they have to (JVMS 4.4 to 4.7).
+//! Whether the indexes of a class file name what they have to (JVMS 4.1 to 4.7).
 
-ghost use Rattle.std.specs.Prelude.{◌≡◌, ◌≤◌, ◌⊎◌, ◌↔◌, [], IsTrue, Some, codes};
+ghost use Rattle.std.specs.Prelude.{◌≡◌, ◌⊎◌, ◌↔◌, IsTrue, IsSomeAnd, IfNone, IfSome};
 ghost use Rattle.std.specs.List.{AllByRecursion};
-ghost use Rattle.je_class.specs.Class.{text_at, IsConst, IsClassIndex, IsAttribute, IsMethod, IsClass};
-ghost use Rattle.je_class.specs.Parts.{class_of_parts};
+ghost use Rattle.je_consts.specs.Pool.{text_at};
+ghost use Rattle.je_desc.specs.Descriptor.{FieldDescriptor};
+ghost use Rattle.je_class.specs.Class.{IsClassIndex, IsTextIndex, IsDescriptorOf};
+ghost use Rattle.je_class.specs.FileParts.{Passes};
+ghost use Rattle.je_class.specs.Faults.{FailsFirst};
+ghost use Rattle.je_class.specs.Reading.{Reads, tests_of, index_parts};
 
-use crate::constant::Const;
-use crate::lookup::{class_at, name_and_type_at, text_at};
-use crate::member::{Attribute, Member};
-use crate::named::has_text;
-use crate::parts::Parts;
-use je_desc::is_class_name;
+use crate::fault::ClassFault;
+use crate::fields::u16_at;
+use je_consts::Consts;
+use je_desc::{is_class_name, is_field, units};
 
-/// The descriptor of a method that takes nothing and answers nothing.
-const NO_ARGUMENTS: &[u8] = b"()V";
+/// The access flag of a static method (JVMS table 4.6-A).
+const STATIC: u16 = 0x0008;
 
-fn is_class_index(consts: &[Const], index: u16) -> bool
+/// The most units that a method's parameters have, with one for `this` unless it is static (JVMS 4.3.3).
+const MOST_UNITS: u32 = 255;
+
+/// What an index of the constant pool has to name.
+#[derive(Clone, Copy, Debug)]
+pub(crate) enum Sought {
+    /// A class that is no array.
+    Class,
+    /// A class that is no array, or nothing where the index is 0.
+    ClassOrNone,
+    Text,
+    /// The text that is an attribute's name.
+    AttributeName,
+    FieldDescriptor,
+    /// The descriptor of a method with these access flags.
+    MethodDescriptor(u16),
+}
+
+fn names_class(consts: &Consts, index: u16) -> bool
     ensures { IsTrue result ↔ IsClassIndex consts.now index }
 {
-    match class_at(consts, index) {
+    match consts.class_name(index) {
         Some(name) => is_class_name(name.bytes()),
         None => false,
     }
 }
 
-fn is_const(consts: &[Const], entry: &Const) -> bool
-    ensures { IsTrue result ↔ IsConst consts.now entry.now }
+/// Whether the index is 0 or that of a class that is no array.
+fn names_super(consts: &Consts, index: u16) -> bool
+    ensures { IsTrue result ↔ (index ≡ 0) ⊎ IsClassIndex consts.now index }
 {
-    match entry {
-        Const::Utf8(text) => {
-            // The bytes of a text are modified UTF-8.
-            let _bytes = text.bytes();
-            true
+    index == 0 || names_class(consts, index)
+}
+
+fn names_text(consts: &Consts, index: u16) -> bool
+    ensures { IsTrue result ↔ IsTextIndex consts.now index }
+{
+    consts.text(index).is_some()
+}
+
+fn describes_field(consts: &Consts, index: u16) -> bool
+    ensures { IsTrue result ↔ IsSomeAnd (text_at consts.now index) FieldDescriptor }
+{
+    match consts.text(index) {
+        Some(text) => is_field(text.bytes()),
+        None => false,
+    }
+}
+
+/// Whether the bytes are the descriptor of a method with these access flags.
+fn is_descriptor_of(access: u16, bytes: &[u8]) -> bool
+    ensures { IsTrue result ↔ IsDescriptorOf access bytes.now }
+{
+    match units(bytes) {
+        Some(units) => access & STATIC != 0 || units < MOST_UNITS,
+        None => false,
+    }
+}
+
+fn describes_method(consts: &Consts, access: u16, index: u16) -> bool
+    ensures { IsTrue result ↔ IsSomeAnd (text_at consts.now index) (IsDescriptorOf access) }
+{
+    match consts.text(index) {
+        Some(text) => is_descriptor_of(access, text.bytes()),
+        None => false,
+    }
+}
+
+/// The fault, unless the test passes.
+fn unless(passes: bool, fault: ClassFault) -> Option<ClassFault>
+    ensures none { IfNone result (IsTrue passes) }
+    ensures some { IfSome result (λ f. (IsTrue passes → ⊥) × (f ≡ fault)) }
+{
+    if passes { None } else { Some(fault) }
+}
+
+/// The fault of the index at an offset, where it does not name what it has to.
+fn fault_of(consts: &Consts, names: Sought, index: u16, at: usize) -> Option<ClassFault>
+    ensures none { IfNone result (AllByRecursion (Passes consts.now) (tests_of names index)) }
+    ensures some { IfSome result (FailsFirst consts.now at (tests_of names index)) }
+{
+    match names {
+        Sought::Class => unless(names_class(consts, index), ClassFault::BadIndex(at)),
+        Sought::ClassOrNone => unless(names_super(consts, index), ClassFault::BadIndex(at)),
+        Sought::Text => unless(names_text(consts, index), ClassFault::BadIndex(at)),
+        Sought::AttributeName => unless(names_text(consts, index), ClassFault::BadAttribute(at)),
+        Sought::FieldDescriptor => {
+            if !names_text(consts, index) {
+                return Some(ClassFault::BadIndex(at));
+            }
+            unless(
+                describes_field(consts, index),
+                ClassFault::BadDescriptor(at),
+            )
         }
-        Const::Class(name) => text_at(consts, *name).is_some(),
-        Const::Method(class, member) => {
-            class_at(consts, *class).is_some() && name_and_type_at(consts, *member).is_some()
-        }
-        Const::NameAndType(name, descriptor) => {
-            text_at(consts, *name).is_some() && text_at(consts, *descriptor).is_some()
+        Sought::MethodDescriptor(access) => {
+            if !names_text(consts, index) {
+                return Some(ClassFault::BadIndex(at));
+            }
+            unless(
+                describes_method(consts, access, index),
+                ClassFault::BadDescriptor(at),
+            )
         }
     }
 }
 
-fn are_consts(consts: &[Const]) -> bool
-    ensures { IsTrue result ↔ AllByRecursion (IsConst consts.now) consts.now }
+/// An index of the constant pool, which names what it has to, and the offset after it.
+pub(crate) fn index_at(
+    consts: &Consts,
+    names: Sought,
+    bytes: &[u8],
+    at: usize,
+) -> Result<(u16, usize), ClassFault>
+    ensures { Reads (λ x. x) bytes.now consts.now at (index_parts names) result }
 {
-    for entry in consts {
-        if !is_const(consts, entry) {
-            return false;
-        }
+    let (index, end) = u16_at(bytes, at)?;
+    match fault_of(consts, names, index, at) {
+        Some(fault) => Err(fault),
+        None => Ok((index, end)),
     }
-    true
-}
-
-fn are_class_indexes(consts: &[Const], indexes: &[u16]) -> bool
-    ensures { IsTrue result ↔ AllByRecursion (IsClassIndex consts.now) indexes.now }
-{
-    for index in indexes {
-        if !is_class_index(consts, *index) {
-            return false;
-        }
-    }
-    true
-}
-
-fn is_attribute(consts: &[Const], attribute: &Attribute) -> bool
-    ensures { IsTrue result ↔ IsAttribute consts.now attribute.now }
-{
-    text_at(consts, attribute.name).is_some()
-}
-
-fn are_attributes(consts: &[Const], attributes: &[Attribute]) -> bool
-    ensures { IsTrue result ↔ AllByRecursion (IsAttribute consts.now) attributes.now }
-{
-    for attribute in attributes {
-        if !is_attribute(consts, attribute) {
-            return false;
-        }
-    }
-    true
-}
-
-fn is_method(consts: &[Const], method: &Member) -> bool
-    ensures { IsTrue result ↔ IsMethod consts.now method.now }
-{
-    text_at(consts, method.name).is_some()
-        && has_text(consts, method.descriptor, NO_ARGUMENTS)
-        && are_attributes(consts, method.attributes.as_slice())
-}
-
-fn are_methods(consts: &[Const], methods: &[Member]) -> bool
-    ensures { IsTrue result ↔ AllByRecursion (IsMethod consts.now) methods.now }
-{
-    for method in methods {
-        if !is_method(consts, method) {
-            return false;
-        }
-    }
-    true
-}
-
-/// The class and the super class, of which the second may be missing.
-fn are_own_indexes(consts: &[Const], this_class: u16, super_class: u16) -> bool
-    ensures { IsTrue result ↔ (IsClassIndex consts.now this_class × ((super_class ≡ 0) ⊎ IsClassIndex consts.now super_class)) }
-{
-    is_class_index(consts, this_class) && (super_class == 0 || is_class_index(consts, super_class))
-}
-
-/// The lists behind the constant pool.
-fn are_lists(parts: &Parts) -> bool
-    ensures { let c = class_of_parts parts.now in
-        IsTrue result ↔ (AllByRecursion (IsClassIndex c.consts) c.interfaces × (c.fields ≡ [])
-        × AllByRecursion (IsMethod c.consts) c.methods × AllByRecursion (IsAttribute c.consts) c.attributes) }
-{
-    are_class_indexes(&parts.consts, &parts.interfaces)
-        && parts.fields.is_empty()
-        && are_methods(&parts.consts, &parts.methods)
-        && are_attributes(&parts.consts, &parts.attributes)
-}
-
-fn is_version(major: u16) -> bool
-    ensures { IsTrue result ↔ ((49 ≤ major) × (major ≤ 52)) }
-{
-    (49..=52).contains(&major)
-}
-
-pub(crate) fn is_class(parts: &Parts) -> bool
-    ensures { IsTrue result ↔ IsClass (class_of_parts parts.now) }
-{
-    is_version(parts.major)
-        && are_consts(&parts.consts)
-        && are_own_indexes(&parts.consts, parts.this_class, parts.super_class)
-        && are_lists(parts)
 }

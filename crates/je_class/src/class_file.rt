@@ -1,17 +1,20 @@
 //! A class file in memory.
 
-ghost use Rattle.std.specs.Prelude.{◌≡◌, ◌^◌, ◌<◌, length, codes, Some, IfSome, IfNone, All, slice_get, IsSomeAnd};
-ghost use Rattle.je_class.specs.Class.{IsClass, IsNamed, IsMethodAt, class_at, with_attribute, with_method_attribute, changed_at};
-ghost use Rattle.je_class.specs.Layout.{FitsClass};
-ghost use Rattle.je_class.specs.Parts.{class_of_parts, IsSound};
+ghost use Rattle.std.specs.Prelude.{◌≡◌, ◌≢◌, ◌^◌, ◌<◌, length, Some, IfSome, IfNone, IfOk, All, slice_get, IsSomeAnd};
+ghost use Rattle.je_consts.specs.Pool.{class_at};
+ghost use Rattle.je_class.specs.Class.{IsNamed, IsMethodAt, with_attribute, with_method_attribute, changed_at};
+ghost use Rattle.je_class.specs.FileParts.{IsSound};
+ghost use Rattle.je_class.specs.InMemory.{class_of_parts};
+ghost use Rattle.je_class.specs.Summed.{IsSummary};
 
-use crate::check::is_class;
-use crate::constant::Const;
-use crate::lookup::class_at;
+use crate::copying::copy_parts;
 use crate::member::{Attribute, Member};
 use crate::named::place_of;
 use crate::parts::Parts;
-use je_base::Text;
+use crate::summed::summary_of;
+use je_base::{Memory, Text};
+use je_consts::Consts;
+use je_desc::Summary;
 use sqlite_items::Items;
 use std::marker::Model;
 
@@ -23,7 +26,8 @@ pub struct ClassFile {
 
 impl Model for ClassFile {
     ghost use Rattle.je_class.specs.Class.{Class};
-    ghost use Rattle.je_class.specs.Parts.{class_of_parts, IsSound};
+    ghost use Rattle.je_class.specs.FileParts.{IsSound};
+    ghost use Rattle.je_class.specs.InMemory.{class_of_parts};
 
     ghost Value = { Class };
 
@@ -33,35 +37,12 @@ impl Model for ClassFile {
 }
 
 impl ClassFile {
-    /// The class file of these parts, or `None` where an index does not name what it has to.
-    pub(crate) fn of_parts(parts: Parts) -> Option<ClassFile>
-        requires { FitsClass (class_of_parts parts) }
-        ensures found { IfSome result (λ c. c ≡ class_of_parts parts) }
-        ensures names { IfSome result IsClass }
-        ensures none { IfNone result (IsClass (class_of_parts parts) → ⊥) }
+    /// The class file of these parts.
+    pub(crate) fn of_parts(parts: Parts) -> ClassFile
+        requires { IsSound (class_of_parts parts) }
+        ensures { result ≡ class_of_parts parts }
     {
-        if is_class(&parts) {
-            Some(ClassFile { parts })
-        } else {
-            None
-        }
-    }
-
-    /// The constant pool: the entry of index 1 first.
-    pub fn consts(&self) -> &[Const]
-        ensures consts { result.now ≡ self.now.consts }
-        ensures names { IsClass self.now }
-    {
-        &self.parts.consts
-    }
-
-    /// The methods in the order of the file.
-    pub fn methods(&self) -> &[Member]
-        ensures methods { result.now ≡ self.now.methods }
-        ensures names { IsClass self.now }
-        ensures fits { FitsClass self.now }
-    {
-        &self.parts.methods
+        ClassFile { parts }
     }
 
     /// The items of the file in memory.
@@ -72,22 +53,128 @@ impl ClassFile {
         &self.parts
     }
 
+    /// The minor version (JVMS 4.1).
+    pub fn minor(&self) -> u16
+        ensures { result ≡ self.now.minor }
+    {
+        self.parts.minor
+    }
+
+    /// The major version, from 49 to 52 (JVMS 4.1).
+    pub fn major(&self) -> u16
+        ensures { result ≡ self.now.major }
+    {
+        self.parts.major
+    }
+
+    /// The constant pool.
+    pub fn consts(&self) -> &Consts
+        ensures { result.now ≡ self.now.consts }
+    {
+        &self.parts.consts
+    }
+
+    /// The access flags (JVMS table 4.1-A).
+    pub fn access(&self) -> u16
+        ensures { result ≡ self.now.access }
+    {
+        self.parts.access
+    }
+
+    /// The index of the class itself in the constant pool.
+    pub fn this_class(&self) -> u16
+        ensures { result ≡ self.now.this_class }
+    {
+        self.parts.this_class
+    }
+
+    /// The index of the super class in the constant pool, or 0.
+    pub fn super_class(&self) -> u16
+        ensures { result ≡ self.now.super_class }
+    {
+        self.parts.super_class
+    }
+
+    /// The indexes of the interfaces in the constant pool, in the order of the file.
+    pub fn interfaces(&self) -> &[u16]
+        ensures { result.now ≡ self.now.interfaces }
+    {
+        &self.parts.interfaces
+    }
+
+    /// The fields in the order of the file.
+    pub fn fields(&self) -> &[Member]
+        ensures { result.now ≡ self.now.fields }
+    {
+        &self.parts.fields
+    }
+
+    /// The methods in the order of the file.
+    pub fn methods(&self) -> &[Member]
+        ensures { result.now ≡ self.now.methods }
+    {
+        &self.parts.methods
+    }
+
+    /// The attributes of the class in the order of the file.
+    pub fn attributes(&self) -> &[Attribute]
+        ensures { result.now ≡ self.now.attributes }
+    {
+        &self.parts.attributes
+    }
+
     /// The name of the class.
     pub fn this_name(&self) -> &Text
         ensures { class_at self.now.consts self.now.this_class ≡ Some result.now }
     {
-        class_at(&self.parts.consts, self.parts.this_class).unwrap()
+        self.parts.consts.class_name(self.parts.this_class).unwrap()
     }
 
-    /// The place of the first method of this name.
-    ///
-    /// Every method that is read so far has the descriptor `()V`.
-    pub fn find_method(&self, name: &Text) -> Option<usize>
-        ensures found { IfSome result (IsMethodAt self.now name.now (codes "()V")) }
-        ensures none { IfNone result
-            (All (λ m. IsNamed self.now.consts name.now (codes "()V") m → ⊥) self.now.methods) }
+    /// The name of the super class; `None` exactly where its index is 0.
+    pub fn super_name(&self) -> Option<&Text>
+        ensures some { IfSome result (λ name.
+            class_at self.now.consts self.now.super_class ≡ Some name.now) }
+        ensures not_0 { IfSome result (λ _. self.now.super_class ≢ 0) }
+        ensures none { IfNone result (self.now.super_class ≡ 0) }
     {
-        place_of(&self.parts.consts, name, b"()V", &self.parts.methods)
+        if self.parts.super_class == 0 {
+            return None;
+        }
+        Some(
+            self.parts
+                .consts
+                .class_name(self.parts.super_class)
+                .unwrap(),
+        )
+    }
+
+    /// The place of the first method of this name and descriptor; `None` exactly where there is none.
+    pub fn find_member(&self, name: &Text, descriptor: &Text) -> Option<usize>
+        ensures found { IfSome result (IsMethodAt self.now name.now descriptor.now) }
+        ensures none { IfNone result
+            (All (λ m. IsNamed self.now.consts name.now descriptor.now m → ⊥) self.now.methods) }
+    {
+        place_of(
+            &self.parts.consts,
+            name.bytes(),
+            descriptor.bytes(),
+            &self.parts.methods,
+        )
+    }
+
+    /// The same class file once more.
+    pub fn copy(&self) -> Result<ClassFile, Memory>
+        ensures { IfOk result (λ c. c ≡ self.now) }
+    {
+        let parts = copy_parts(&self.parts)?;
+        Ok(ClassFile::of_parts(parts))
+    }
+
+    /// The class as other classes see it.
+    pub fn summary(&self) -> Result<Summary, Memory>
+        ensures { IfOk result (IsSummary self.now) }
+    {
+        summary_of(self)
     }
 
     /// Puts other bytes, fewer than 4,294,967,296, into an attribute of a method. Both are named by their places.

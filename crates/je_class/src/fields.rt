@@ -1,52 +1,63 @@
-//! The single fields of a class file, read from the front of the bytes.
+//! The single numbers of a class file, each read at an offset.
 
-ghost use Rattle.std.specs.Int.{w16, w32};
-ghost use Rattle.je_class.specs.Reading.{Gives, number_at, run_at, nothing_at};
+ghost use Rattle.std.specs.Prelude.{◌≡◌, ◌+◌, ◌^◌, ◌<◌, drop, length, IfOk, IfErr};
+ghost use Rattle.je_consts.specs.Layout.{u2, u4};
+ghost use Rattle.je_class.specs.Faults.{IsThere, IsCut};
 
-use crate::stop::ReadStop;
+use crate::fault::ClassFault;
 
-/// A number of two bytes, and the bytes after it.
-pub(crate) fn u16_at(bytes: &[u8]) -> Result<(u16, &[u8]), ReadStop>
-    ensures { Gives (λ x. (x.0, x.1.now)) result (number_at w16 bytes.now) }
+/// The bytes from an offset on, none where it lies behind the end.
+fn from(bytes: &[u8], at: usize) -> &[u8]
+    ensures { result.now ≡ drop at bytes.now }
 {
-    if bytes.len() < 2 {
-        return Err(ReadStop::NotYet);
+    match bytes.get(at..) {
+        Some(rest) => rest,
+        None => &[],
     }
-    let (front, rest) = bytes.split_at(2);
-    let number = u16::from_be_bytes([front[0], front[1]]);
-    Ok((number, rest))
 }
 
-/// A number of four bytes, and the bytes after it.
-pub(crate) fn u32_at(bytes: &[u8]) -> Result<(u32, &[u8]), ReadStop>
-    ensures { Gives (λ x. (x.0, x.1.now)) result (number_at w32 bytes.now) }
+/// A number of two bytes, and the offset after it.
+pub(crate) fn u16_at(bytes: &[u8], at: usize) -> Result<(u16, usize), ClassFault>
+    ensures there { IfOk result (λ x. IsThere bytes.now at (u2 x.0)) }
+    ensures end { IfOk result (λ x. x.1 ≡ at + 2) }
+    ensures fits { IfOk result (λ x. x.0 < 2 ^ 16) }
+    ensures cut { IfErr result (IsCut bytes.now at 2) }
 {
-    if bytes.len() < 4 {
-        return Err(ReadStop::NotYet);
+    let rest = from(bytes, at);
+    if rest.len() < 2 {
+        return Err(ClassFault::Truncated(at));
     }
-    let (front, rest) = bytes.split_at(4);
+    let (front, _) = rest.split_at(2);
+    Ok((u16::from_be_bytes([front[0], front[1]]), at + 2))
+}
+
+/// A number of four bytes, and the offset after it.
+pub(crate) fn u32_at(bytes: &[u8], at: usize) -> Result<(u32, usize), ClassFault>
+    ensures there { IfOk result (λ x. IsThere bytes.now at (u4 x.0)) }
+    ensures end { IfOk result (λ x. x.1 ≡ at + 4) }
+    ensures fits { IfOk result (λ x. x.0 < 2 ^ 32) }
+    ensures cut { IfErr result (IsCut bytes.now at 4) }
+{
+    let rest = from(bytes, at);
+    if rest.len() < 4 {
+        return Err(ClassFault::Truncated(at));
+    }
+    let (front, _) = rest.split_at(4);
     let number = u32::from_be_bytes([front[0], front[1], front[2], front[3]]);
-    Ok((number, rest))
+    Ok((number, at + 4))
 }
 
-/// So many bytes, and the bytes after them.
-pub(crate) fn run_at(len: usize, bytes: &[u8]) -> Result<(&[u8], &[u8]), ReadStop>
-    ensures { Gives (λ x. (x.0.now, x.1.now)) result (run_at len bytes.now) }
+/// So many bytes, and the offset after them.
+pub(crate) fn run_at(len: usize, bytes: &[u8], at: usize) -> Result<(&[u8], usize), ClassFault>
+    ensures run { IfOk result (λ x. length x.0.now ≡ len) }
+    ensures there { IfOk result (λ x. IsThere bytes.now at x.0.now) }
+    ensures end { IfOk result (λ x. x.1 ≡ at + len) }
+    ensures cut { IfErr result (IsCut bytes.now at len) }
 {
-    if bytes.len() < len {
-        return Err(ReadStop::NotYet);
+    let rest = from(bytes, at);
+    if rest.len() < len {
+        return Err(ClassFault::Truncated(at));
     }
-    Ok(bytes.split_at(len))
-}
-
-/// A count of 0, and the bytes after it.
-#[tactic(auto, unfolding(crate::specs::Reading::nothing_at))]
-pub(crate) fn nothing_at(bytes: &[u8]) -> Result<&[u8], ReadStop>
-    ensures { Gives (λ x. x.now) result (nothing_at bytes.now) }
-{
-    let (count, rest) = u16_at(bytes)?;
-    if count != 0 {
-        return Err(ReadStop::NotYet);
-    }
-    Ok(rest)
+    let (front, _) = rest.split_at(len);
+    Ok((front, at + len))
 }

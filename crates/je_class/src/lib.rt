@@ -1,29 +1,29 @@
-//! Class files, read to a record and written back.
+//! Class files of the versions 49 to 52, read to a record and written back (JVMS 4).
 //!
-//! Stands on je_base and je_desc. Offers above: what is read is spelled by the bytes, what is spelled so is read, and
-//! what is written is that spelling.
+//! Stands on je_base, je_consts and je_desc. Offers above: what is read is spelled by the bytes, what is spelled so is
+//! read, each fault is the first test that fails, and what is written is that spelling.
 #![tactic(auto)]
 
 mod check;
 mod class_file;
-mod constant;
+mod copying;
+mod fault;
 mod fields;
-mod lookup;
+mod laws;
 mod member;
 mod members;
 mod named;
 mod parts;
-mod pool;
 mod reading;
-mod stop;
+mod summed;
+mod words;
 mod writing;
 
 pub use class_file::ClassFile;
-pub use constant::Const;
-pub use lookup::{class_at, const_at, name_and_type_at, text_at};
+pub use fault::{ClassFault, MOST_BYTES};
+pub use laws::one_class;
 pub use member::{Attribute, Member};
 pub use reading::read_class;
-pub use stop::{MOST_BYTES, ReadStop};
 pub use writing::write_class;
 
 #[cfg(test)]

@@ -1,72 +1,128 @@
-//! Methods and their attributes, read from the front of the bytes (JVMS 4.6 and 4.7).
+//! The tables of a class file: its interfaces, fields, methods and attributes (JVMS 4.1 and 4.5 to 4.7).
 
-ghost use Rattle.je_class.specs.Reading.{Gives, attribute_at, items_at, member_at};
+ghost use Rattle.std.specs.Prelude.{◌≡◌};
+ghost use Rattle.je_class.specs.FileParts.{table_parts, interface_parts, attribute_parts};
+ghost use Rattle.je_class.specs.Reading.{Reads, descriptor_of, parts_of_kind};
 
+use crate::check::{Sought, index_at};
+use crate::fault::ClassFault;
 use crate::fields::{run_at, u16_at, u32_at};
 use crate::member::{Attribute, Member};
-use crate::stop::ReadStop;
+use je_consts::Consts;
 use sqlite_items::Items;
 use std::alloc::Global;
 
-#[tactic(auto, unfolding(crate::specs::Reading::attribute_at))]
-fn attribute_of(alloc: Global, bytes: &[u8]) -> Result<(Attribute, &[u8]), ReadStop>
-    ensures { Gives (λ x. (x.0, x.1.now)) result (attribute_at bytes.now) }
-{
-    let (name, rest) = u16_at(bytes)?;
-    let (len, rest) = u32_at(rest)?;
-    let (run, rest) = run_at(len as usize, rest)?;
-    let bytes = Items::from_slice(alloc, run)?;
-    Ok((Attribute { name, bytes }, rest))
+/// What the members of a table are.
+#[derive(Clone, Copy, Debug)]
+pub(crate) enum Kind {
+    Fields,
+    Methods,
 }
 
-fn attributes_of(
-    alloc: Global,
-    count: u16,
-    bytes: &[u8],
-) -> Result<(Items<Attribute>, &[u8]), ReadStop>
-    ensures { Gives (λ x. (x.0, x.1.now)) result (items_at attribute_at count bytes.now) }
+/// What the index of a member's descriptor has to name.
+fn descriptor_of(kind: Kind, access: u16) -> Sought
+    ensures { result ≡ descriptor_of kind access }
 {
-    let mut attributes = Items::new(alloc);
-    let mut rest = bytes;
-    for _ in 0..count {
-        let (attribute, after) = attribute_of(alloc, rest)?;
-        attributes.push(attribute)?;
-        rest = after;
+    match kind {
+        Kind::Fields => Sought::FieldDescriptor,
+        Kind::Methods => Sought::MethodDescriptor(access),
     }
-    Ok((attributes, rest))
 }
 
-#[tactic(auto, unfolding(crate::specs::Reading::member_at))]
-fn member_of(alloc: Global, bytes: &[u8]) -> Result<(Member, &[u8]), ReadStop>
-    ensures { Gives (λ x. (x.0, x.1.now)) result (member_at bytes.now) }
+/// The interfaces of a class, and the offset after them.
+pub(crate) fn interfaces_at(
+    alloc: Global,
+    consts: &Consts,
+    bytes: &[u8],
+    at: usize,
+) -> Result<(Vec<u16>, usize), ClassFault>
+    ensures { Reads (λ x. (x.0.items, x.1)) bytes.now consts.now at (table_parts interface_parts) result }
 {
-    let (access, rest) = u16_at(bytes)?;
-    let (name, rest) = u16_at(rest)?;
-    let (descriptor, rest) = u16_at(rest)?;
-    let (count, rest) = u16_at(rest)?;
-    let (attributes, rest) = attributes_of(alloc, count, rest)?;
+    let (count, start) = u16_at(bytes, at)?;
+    let mut interfaces = Vec::new(alloc);
+    let mut next = start;
+    for _ in 0..count {
+        let (index, after) = index_at(consts, Sought::Class, bytes, next)?;
+        interfaces.push(index)?;
+        next = after;
+    }
+    Ok((interfaces, next))
+}
+
+fn attribute_at(
+    alloc: Global,
+    consts: &Consts,
+    bytes: &[u8],
+    at: usize,
+) -> Result<(Attribute, usize), ClassFault>
+    ensures { Reads (λ x. x) bytes.now consts.now at attribute_parts result }
+{
+    let (name, at) = index_at(consts, Sought::AttributeName, bytes, at)?;
+    let (len, at) = u32_at(bytes, at)?;
+    let (run, at) = run_at(len as usize, bytes, at)?;
+    let bytes = Items::from_slice(alloc, run)?;
+    Ok((Attribute { name, bytes }, at))
+}
+
+/// The attributes of a class or of a member, and the offset after them.
+pub(crate) fn attributes_at(
+    alloc: Global,
+    consts: &Consts,
+    bytes: &[u8],
+    at: usize,
+) -> Result<(Vec<Attribute>, usize), ClassFault>
+    ensures { Reads (λ x. (x.0.items, x.1)) bytes.now consts.now at (table_parts attribute_parts) result }
+{
+    let (count, start) = u16_at(bytes, at)?;
+    let mut attributes = Vec::new(alloc);
+    let mut next = start;
+    for _ in 0..count {
+        let (attribute, after) = attribute_at(alloc, consts, bytes, next)?;
+        attributes.push(attribute)?;
+        next = after;
+    }
+    Ok((attributes, next))
+}
+
+fn member_at(
+    alloc: Global,
+    consts: &Consts,
+    kind: Kind,
+    bytes: &[u8],
+    at: usize,
+) -> Result<(Member, usize), ClassFault>
+    ensures { Reads (λ x. x) bytes.now consts.now at (parts_of_kind kind) result }
+{
+    let (access, at) = u16_at(bytes, at)?;
+    let (name, at) = index_at(consts, Sought::Text, bytes, at)?;
+    let (descriptor, at) = index_at(consts, descriptor_of(kind, access), bytes, at)?;
+    let (attributes, at) = attributes_at(alloc, consts, bytes, at)?;
     let member = Member {
         access,
         name,
         descriptor,
-        attributes,
+        attributes: Items::from_vec(attributes),
     };
-    Ok((member, rest))
+    Ok((member, at))
 }
 
-pub(crate) fn members_of(
+/// The fields or the methods of a class, and the offset after them.
+pub(crate) fn members_at(
     alloc: Global,
-    count: u16,
+    consts: &Consts,
+    kind: Kind,
     bytes: &[u8],
-) -> Result<(Vec<Member>, &[u8]), ReadStop>
-    ensures { Gives (λ x. (x.0.items, x.1.now)) result (items_at member_at count bytes.now) }
+    at: usize,
+) -> Result<(Vec<Member>, usize), ClassFault>
+    ensures { Reads (λ x. (x.0.items, x.1)) bytes.now consts.now at (table_parts (parts_of_kind kind)) result }
 {
+    let (count, start) = u16_at(bytes, at)?;
     let mut members = Vec::new(alloc);
-    let mut rest = bytes;
+    let mut next = start;
     for _ in 0..count {
-        let (member, after) = member_of(alloc, rest)?;
+        let (member, after) = member_at(alloc, consts, kind, bytes, next)?;
         members.push(member)?;
-        rest = after;
+        next = after;
     }
-    Ok((members, rest))
+    Ok((members, next))
 }

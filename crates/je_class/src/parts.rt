@@ -1,14 +1,14 @@
 //! The parts of a class file in memory.
 
-use crate::constant::Const;
 use crate::member::{Attribute, Member};
+use je_consts::Consts;
 
 /// The items of a class file in the order of the file, whatever its indexes name.
 #[derive(Debug, Drop)]
 pub(crate) struct Parts {
     pub(crate) minor: u16,
     pub(crate) major: u16,
-    pub(crate) consts: Vec<Const>,
+    pub(crate) consts: Consts,
     pub(crate) access: u16,
     pub(crate) this_class: u16,
     pub(crate) super_class: u16,

@@ -1,114 +1,160 @@
 //! A class file, read from its bytes (JVMS 4.1).
 
-ghost use Rattle.std.specs.Prelude.{◌≡◌, ◌≤◌, length, IfOk, OnOk, MatchResult};
-ghost use Rattle.je_class.specs.Class.{Class, IsFirstForm};
+ghost use Rattle.std.specs.Prelude.{◌≡◌, ℕ, ◌≤◌, ◌⊎◌, ◌↔◌, ◌∷◌, [], List, length, IsTrue, IfOk, IfErr, OnOk, MatchResult};
+ghost use Rattle.je_consts.specs.declared.place.Place.{Place};
+ghost use Rattle.je_class.specs.declared.fault.ClassFault.{ClassFault};
+ghost use Rattle.je_class.specs.Class.{Class};
 ghost use Rattle.je_class.specs.ClassBytes.{ClassBytes};
-ghost use Rattle.je_class.specs.Parts.{class_of_parts};
-ghost use Rattle.je_class.specs.Reading.{Gives, start_at, own_at, lists_at, all_of};
+ghost use Rattle.je_class.specs.FileParts.{Pool};
+ghost use Rattle.je_class.specs.Faults.{pool_fault, FirstFault};
+ghost use Rattle.je_class.specs.InMemory.{class_of_parts};
+ghost use Rattle.je_class.specs.Reading.{Reads, ReadsClass, start_parts, own_parts, lists_parts};
 
+use crate::check::{Sought, index_at};
 use crate::class_file::ClassFile;
-use crate::fields::{nothing_at, u16_at, u32_at};
-use crate::member::Member;
-use crate::members::members_of;
+use crate::fault::{ClassFault, MOST_BYTES};
+use crate::fields::{u16_at, u32_at};
+use crate::member::{Attribute, Member};
+use crate::members::{Kind, attributes_at, interfaces_at, members_at};
 use crate::parts::Parts;
-use crate::pool::pool_of;
-use crate::stop::{MOST_BYTES, ReadStop};
+use je_consts::{ConstFault, Consts, one_pool};
 use std::alloc::Global;
 
-/// The first bytes of each class file.
+/// The first number of each class file.
 const MAGIC: u32 = 0xcafe_babe;
 
-/// The only major version that is read so far.
-const MAJOR: u16 = 49;
-
-/// The magic number and the version, of which the minor number is answered.
-#[tactic(auto, unfolding(crate::specs::Reading::start_at))]
-fn start_of(bytes: &[u8]) -> Result<(u16, &[u8]), ReadStop>
-    ensures { Gives (λ x. (x.0, x.1.now)) result (start_at bytes.now) }
+/// Whether class files of this major version are read.
+fn is_version(major: u16) -> bool
+    ensures { IsTrue result ↔ ((49 ≤ major) × (major ≤ 52)) }
 {
-    let (magic, rest) = u32_at(bytes)?;
-    let (minor, rest) = u16_at(rest)?;
-    let (major, rest) = u16_at(rest)?;
-    if magic != MAGIC || major != MAJOR {
-        return Err(ReadStop::NotYet);
+    (49..=52).contains(&major)
+}
+
+/// The minor and the major version, behind the magic, and the offset after them.
+fn start_at(bytes: &[u8]) -> Result<((u16, u16), usize), ClassFault>
+    ensures { (consts : List Place) →
+        Reads (λ x. ((MAGIC, x.0.0, x.0.1), x.1)) bytes.now consts 0 start_parts result }
+{
+    let (magic, at) = u32_at(bytes, 0)?;
+    if magic != MAGIC {
+        return Err(ClassFault::BadMagic);
     }
-    Ok((minor, rest))
+    let (minor, at) = u16_at(bytes, at)?;
+    let (major, at) = u16_at(bytes, at)?;
+    if !is_version(major) {
+        return Err(ClassFault::Version(major));
+    }
+    Ok(((minor, major), at))
+}
+
+/// A fault of the constant pool as one of the class file.
+fn pool_fault(fault: ConstFault) -> ClassFault
+    ensures { result ≡ pool_fault fault }
+{
+    match fault {
+        ConstFault::Truncated(at) => ClassFault::Truncated(at),
+        ConstFault::BadConst(index) => ClassFault::BadConst(index),
+        ConstFault::Memory => ClassFault::Memory,
+    }
+}
+
+fn pool_at(alloc: Global, bytes: &[u8], at: usize) -> Result<(Consts, usize), ClassFault>
+    requires { at ≤ length bytes.now }
+    ensures { (consts : List Place) → Reads (λ x. x) bytes.now consts at (λ places. Pool places ∷ []) result }
+{
+    match Consts::read(alloc, bytes, at) {
+        Ok((places, end)) => Ok((places, end)),
+        Err(fault) => Err(pool_fault(fault)),
+    }
 }
 
 /// The access flags, and the indexes of the class and of its super class.
-#[tactic(auto, unfolding(crate::specs::Reading::own_at))]
-fn own_of(bytes: &[u8]) -> Result<((u16, u16, u16), &[u8]), ReadStop>
-    ensures { Gives (λ x. (x.0, x.1.now)) result (own_at bytes.now) }
+fn own_at(consts: &Consts, bytes: &[u8], at: usize) -> Result<((u16, u16, u16), usize), ClassFault>
+    ensures { Reads (λ x. x) bytes.now consts.now at own_parts result }
 {
-    let (access, rest) = u16_at(bytes)?;
-    let (this_class, rest) = u16_at(rest)?;
-    let (super_class, rest) = u16_at(rest)?;
-    Ok(((access, this_class, super_class), rest))
+    let (access, at) = u16_at(bytes, at)?;
+    let (this_class, at) = index_at(consts, Sought::Class, bytes, at)?;
+    let (super_class, at) = index_at(consts, Sought::ClassOrNone, bytes, at)?;
+    Ok(((access, this_class, super_class), at))
 }
 
-/// The methods, where the other lists are empty and nothing follows them.
-#[tactic(auto, unfolding(crate::specs::Reading::lists_at))]
-fn lists_of(alloc: Global, bytes: &[u8]) -> Result<Vec<Member>, ReadStop>
-    ensures { Gives (λ v. v.items) result (lists_at bytes.now) }
+/// The tables of a class file.
+type Lists = (Vec<u16>, Vec<Member>, Vec<Member>, Vec<Attribute>);
+
+fn lists_at(
+    alloc: Global,
+    consts: &Consts,
+    bytes: &[u8],
+    at: usize,
+) -> Result<(Lists, usize), ClassFault>
+    ensures { Reads (λ x. ((x.0.0.items, x.0.1.items, x.0.2.items, x.0.3.items), x.1)) bytes.now consts.now at lists_parts result }
 {
-    let no_interfaces = nothing_at(bytes)?;
-    let no_fields = nothing_at(no_interfaces)?;
-    let (count, rest) = u16_at(no_fields)?;
-    let (methods, rest) = members_of(alloc, count, rest)?;
-    let no_attributes = nothing_at(rest)?;
-    if !no_attributes.is_empty() {
-        return Err(ReadStop::NotYet);
-    }
-    Ok(methods)
+    let (interfaces, at) = interfaces_at(alloc, consts, bytes, at)?;
+    let (fields, at) = members_at(alloc, consts, Kind::Fields, bytes, at)?;
+    let (methods, at) = members_at(alloc, consts, Kind::Methods, bytes, at)?;
+    let (attributes, at) = attributes_at(alloc, consts, bytes, at)?;
+    Ok(((interfaces, fields, methods, attributes), at))
 }
 
-#[tactic(auto, unfolding(crate::specs::Reading::all_of))]
-fn parts_of(alloc: Global, bytes: &[u8]) -> Result<Parts, ReadStop>
-    ensures { Gives class_of_parts result (all_of bytes.now) }
+/// The class file at the front of the bytes, and the offset at which it ends.
+fn parts_at(alloc: Global, bytes: &[u8]) -> Result<(Parts, usize), ClassFault>
+    ensures { ReadsClass (λ x. (class_of_parts x.0, x.1)) bytes.now result }
 {
-    let (minor, rest) = start_of(bytes)?;
-    let (consts, rest) = pool_of(alloc, rest)?;
-    let ((access, this_class, super_class), rest) = own_of(rest)?;
-    let methods = lists_of(alloc, rest)?;
-    Ok(Parts {
+    let ((minor, major), at) = start_at(bytes)?;
+    let (consts, at) = pool_at(alloc, bytes, at)?;
+    let ((access, this_class, super_class), at) = own_at(&consts, bytes, at)?;
+    let ((interfaces, fields, methods, attributes), at) = lists_at(alloc, &consts, bytes, at)?;
+    let parts = Parts {
         minor,
-        major: MAJOR,
+        major,
         consts,
         access,
         this_class,
         super_class,
-        interfaces: Vec::new(alloc),
-        fields: Vec::new(alloc),
+        interfaces,
+        fields,
         methods,
-        attributes: Vec::new(alloc),
-    })
+        attributes,
+    };
+    Ok((parts, at))
 }
 
 /// The class file that the bytes spell, all of the bytes (JVMS 4.1).
 ///
-/// So far a class file is read in one form: of major version 49, with constants of the tags 1, 7, 10 and 12,
-/// with no interface, field or class attribute, and with the descriptor `()V` in each method.
-///
 /// # Errors
 ///
-/// `NotYet` where the bytes are no class file of this form or more than `MOST_BYTES`, and `Memory` where
-/// memory runs out.
-pub fn read_class(alloc: Global, bytes: &[u8]) -> Result<ClassFile, ReadStop>
+/// The first test that fails. `TooLong` is tested first and comes where there are more than `MOST_BYTES` bytes. Then the
+/// file is read in the order of its bytes: `Truncated` has the offset at which the number or the run of bytes begins that
+/// is cut off; `BadMagic` comes once the magic is read; `Version` once the major version is read, where it is outside 49
+/// to 52; `BadConst` as `Consts::read` says. `BadIndex` has the offset of an index that does not name what it has to:
+/// that of the class itself, of an interface, or of the super class where it is not 0, a class that is no array; that of a
+/// member's name or descriptor, a text. `BadDescriptor` has the offset of an index whose text is no field descriptor, or
+/// for a method no method descriptor of at most 255 units, with one for `this` unless it is static. `BadAttribute` has the
+/// offset of the index of an attribute's name that names no text. `Trailing` has the offset of the first byte behind the
+/// class file. `Memory` comes where memory runs out.
+pub fn read_class(alloc: Global, bytes: &[u8]) -> Result<ClassFile, ClassFault>
     // What is read is spelled by the bytes.
     ensures found { IfOk result (ClassBytes bytes.now) }
-    ensures form { IfOk result IsFirstForm }
     ensures within { OnOk result (length bytes.now ≤ MOST_BYTES) }
 
     // What is spelled so is read, unless memory runs out.
-    ensures only { (c : Class) → length bytes.now ≤ MOST_BYTES → ClassBytes bytes.now c
-        → IsFirstForm c → MatchResult result (λ d. d ≡ c) (λ e. e ≡ ReadStop.Memory) }
+    ensures only { (c : Class) → length bytes.now ≤ MOST_BYTES → ClassBytes bytes.now c →
+        MatchResult result (λ d. d ≡ c) (λ e. e ≡ ClassFault.Memory) }
+
+    // Each other fault is the first one, and where there is a first one, no other answer comes.
+    ensures fault { IfErr result (λ e. (e ≡ ClassFault.Memory) ⊎ FirstFault bytes.now e) }
+    ensures exact { (d : ClassFault) → FirstFault bytes.now d →
+        MatchResult result (λ _. ⊥) (λ e. (e ≡ ClassFault.Memory) ⊎ (e ≡ d)) }
 {
+    // The law of the layer below that the proof stands on.
+    one_pool();
+
     if bytes.len() > MOST_BYTES {
-        return Err(ReadStop::NotYet);
+        return Err(ClassFault::TooLong);
     }
-    let parts = parts_of(alloc, bytes)?;
-    match ClassFile::of_parts(parts) {
-        Some(class) => Ok(class),
-        None => Err(ReadStop::NotYet),
+    let (parts, end) = parts_at(alloc, bytes)?;
+    if end < bytes.len() {
+        return Err(ClassFault::Trailing(end));
     }
+    Ok(ClassFile::of_parts(parts))
 }

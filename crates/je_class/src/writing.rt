@@ -1,16 +1,16 @@
 //! The bytes of a class file (JVMS 4.1).
 
-ghost use Rattle.std.specs.Prelude.{◌≡◌, ◌+◌, ◌^◌, ◌<◌, ◌++◌, length, IfOk, OnOk};
-ghost use Rattle.std.specs.List.{flat_map, AllByRecursion};
+ghost use Rattle.std.specs.Prelude.{◌≡◌, ℕ, ◌^◌, ◌<◌, List, ◌++◌, length, IfOk, OnOk};
+ghost use Rattle.je_consts.specs.Layout.{u2, u4, table, pool_layout};
 ghost use Rattle.je_class.specs.ClassBytes.{ClassBytes};
-ghost use Rattle.je_class.specs.Layout.{u2, u4, table, const_layout, attribute_layout, member_layout, class_layout, FitsConst, FitsAttribute, FitsMember, FitsTable, FitsClass};
-ghost use Rattle.je_class.specs.Parts.{class_of_parts};
+ghost use Rattle.je_class.specs.InMemory.{class_of_parts};
+ghost use Rattle.je_class.specs.Layout.{attribute_layout, member_layout, head_layout, numbers_layout, tables_layout, class_layout, FitsTable, FitsAttribute, FitsMember, FitsClass};
 
 use crate::class_file::ClassFile;
-use crate::constant::Const;
 use crate::member::{Attribute, Member};
 use crate::parts::Parts;
-use je_base::{Memory, Text};
+use je_base::Memory;
+use je_consts::Consts;
 use std::alloc::Global;
 
 /// The first bytes of each class file.
@@ -30,61 +30,15 @@ fn put_u32(out: &mut Vec<u8>, n: u32) -> Result<(), Memory>
     Ok(())
 }
 
-fn put_text(out: &mut Vec<u8>, text: &Text) -> Result<(), Memory>
-    requires { length text.now < 2 ^ 16 }
-    ensures { OnOk result (out.new.items ≡ out.old.items ++ (u2 (length text.now) ++ text.now)) }
+fn put_consts(out: &mut Vec<u8>, consts: &Consts) -> Result<(), Memory>
+    ensures { OnOk result (out.new.items ≡ out.old.items ++ pool_layout consts.now) }
 {
-    let bytes = text.bytes();
-    put_u16(out, bytes.len() as u16)?;
-    out.extend_from_slice(bytes)?;
+    let bytes = consts.write()?;
+    out.extend_from_slice(&bytes)?;
     Ok(())
 }
 
-fn put_two(out: &mut Vec<u8>, first: u16, second: u16) -> Result<(), Memory>
-    ensures { OnOk result (out.new.items ≡ out.old.items ++ (u2 first ++ u2 second)) }
-{
-    put_u16(out, first)?;
-    put_u16(out, second)
-}
-
-fn put_const(out: &mut Vec<u8>, entry: &Const) -> Result<(), Memory>
-    requires { FitsConst entry.now }
-    ensures { OnOk result (out.new.items ≡ out.old.items ++ const_layout entry.now) }
-{
-    match entry {
-        Const::Utf8(text) => {
-            out.push(1)?;
-            put_text(out, text)
-        }
-        Const::Class(name) => {
-            out.push(7)?;
-            put_u16(out, *name)
-        }
-        Const::Method(class, member) => {
-            out.push(10)?;
-            put_two(out, *class, *member)
-        }
-        Const::NameAndType(name, descriptor) => {
-            out.push(12)?;
-            put_two(out, *name, *descriptor)
-        }
-    }
-}
-
-/// The count of the constant pool is one more than the number of its entries.
-fn put_consts(out: &mut Vec<u8>, consts: &[Const]) -> Result<(), Memory>
-    requires count { length consts.now + 1 < 2 ^ 16 }
-    requires each { AllByRecursion FitsConst consts.now }
-    ensures { OnOk result (out.new.items ≡ out.old.items ++ (u2 (length consts.now + 1) ++ flat_map const_layout consts.now)) }
-{
-    put_u16(out, (consts.len() + 1) as u16)?;
-    for entry in consts {
-        put_const(out, entry)?;
-    }
-    Ok(())
-}
-
-fn put_indexes(out: &mut Vec<u8>, indexes: &[u16]) -> Result<(), Memory>
+fn put_interfaces(out: &mut Vec<u8>, indexes: &[u16]) -> Result<(), Memory>
     requires { length indexes.now < 2 ^ 16 }
     ensures { OnOk result (out.new.items ≡ out.old.items ++ table u2 indexes.now) }
 {
@@ -117,6 +71,7 @@ fn put_attributes(out: &mut Vec<u8>, attributes: &[Attribute]) -> Result<(), Mem
     Ok(())
 }
 
+/// A field or a method.
 fn put_member(out: &mut Vec<u8>, member: &Member) -> Result<(), Memory>
     requires { FitsMember member.now }
     ensures { OnOk result (out.new.items ≡ out.old.items ++ member_layout member.now) }
@@ -138,19 +93,42 @@ fn put_members(out: &mut Vec<u8>, members: &[Member]) -> Result<(), Memory>
     Ok(())
 }
 
+/// What stands before the access flags.
+fn put_head(out: &mut Vec<u8>, parts: &Parts) -> Result<(), Memory>
+    ensures { OnOk result (out.new.items ≡ out.old.items ++ head_layout (class_of_parts parts.now)) }
+{
+    put_u32(out, MAGIC)?;
+    put_u16(out, parts.minor)?;
+    put_u16(out, parts.major)?;
+    put_consts(out, &parts.consts)
+}
+
+/// The access flags, and the indexes of the class and of the super class.
+fn put_numbers(out: &mut Vec<u8>, parts: &Parts) -> Result<(), Memory>
+    ensures { OnOk result (out.new.items ≡ out.old.items ++ numbers_layout (class_of_parts parts.now)) }
+{
+    put_u16(out, parts.access)?;
+    put_u16(out, parts.this_class)?;
+    put_u16(out, parts.super_class)
+}
+
+fn put_tables(out: &mut Vec<u8>, parts: &Parts) -> Result<(), Memory>
+    requires { FitsClass (class_of_parts parts.now) }
+    ensures { OnOk result (out.new.items ≡ out.old.items ++ tables_layout (class_of_parts parts.now)) }
+{
+    put_interfaces(out, &parts.interfaces)?;
+    put_members(out, &parts.fields)?;
+    put_members(out, &parts.methods)?;
+    put_attributes(out, &parts.attributes)
+}
+
 fn put_parts(out: &mut Vec<u8>, parts: &Parts) -> Result<(), Memory>
     requires { FitsClass (class_of_parts parts.now) }
     ensures { OnOk result (out.new.items ≡ out.old.items ++ class_layout (class_of_parts parts.now)) }
 {
-    put_u32(out, MAGIC)?;
-    put_two(out, parts.minor, parts.major)?;
-    put_consts(out, &parts.consts)?;
-    put_u16(out, parts.access)?;
-    put_two(out, parts.this_class, parts.super_class)?;
-    put_indexes(out, &parts.interfaces)?;
-    put_members(out, &parts.fields)?;
-    put_members(out, &parts.methods)?;
-    put_attributes(out, &parts.attributes)
+    put_head(out, parts)?;
+    put_numbers(out, parts)?;
+    put_tables(out, parts)
 }
 
 /// The bytes that spell the class file (JVMS 4.1).
@@ -159,7 +137,11 @@ fn put_parts(out: &mut Vec<u8>, parts: &Parts) -> Result<(), Memory>
 ///
 /// `Memory` where memory runs out.
 pub fn write_class(alloc: Global, class: &ClassFile) -> Result<Vec<u8>, Memory>
-    ensures { IfOk result (λ v. ClassBytes v.items class.now) }
+    // Read from these bytes, where they are at most `MOST_BYTES`, `read_class` gives this class file (`only`).
+    ensures bytes { IfOk result (λ v. ClassBytes v.items class.now) }
+
+    // Where this class file was read, these are the bytes that it was read from.
+    ensures again { IfOk result (λ v. (bytes : List ℕ) → ClassBytes bytes class.now → v.items ≡ bytes) }
 {
     let mut out = Vec::new(alloc);
     put_parts(&mut out, class.parts())?;

@@ -1,35 +1,54 @@
-use Rattle.std.proofs.Common.{subst, sym, ◌∙◌, arith}
+use Rattle.std.proofs.Common.{◌∙◌, inr, arith}
 use Rattle.std.proofs.lemmas.Result.{err_from_is_err_and}
-use Rattle.je_class.specs.Class.{IsClass}
-use Rattle.je_class.specs.Parts.{class_of_parts}
-use Rattle.je_class.specs.Reading.{all_of}
-use Rattle.je_class.proofs.ClassLemmas.{all_takes, all_again, given_is, fails_only, is_spelled, has_form}
+use Rattle.je_class.specs.Faults.{too_long}
+use Rattle.je_class.specs.InMemory.{class_of_parts}
+use Rattle.je_class.proofs.OneClass.{laws_of}
+use Rattle.je_class.proofs.ReadLemmas.{stands_sound, stands_whole, stands_trailing, stands_only, stands_fault, fault_only, fault_first, fault_exact}
 use Rattle.je_class.proofs.reading.read_class.Goals as goal
 
+pub returns-then-bytes-gt-MOST_BYTES-clause-fault : goal.returns-then-bytes-gt-MOST_BYTES-clause-fault
+returns-then-bytes-gt-MOST_BYTES-clause-fault c = inr (too_long (omega arith))
+
 pub returns-in_err-parts-clause-only : goal.returns-in_err-parts-clause-only
-returns-in_err-parts-clause-only c = λ d within spelled form.
+returns-in_err-parts-clause-only c d within whole =
     let p = err_from_is_err_and c.from_residual.result c.from_residual.ensures.1 in
-    rw (p.1, p.2) (fails_only c.in_err-parts.field-0.0 d (all_again c.args.bytes.now d spelled form) c.in_err-parts.ensures)
+    rw (p.1, p.2) (fault_only c.args.bytes.now c.in_err-parts.field-0.0 (laws_of c.one_pool.ensures.same c.one_pool.ensures.no_fault c.one_pool.ensures.one_fault) c.in_err-parts.ensures d whole)
+
+pub returns-in_err-parts-clause-fault : goal.returns-in_err-parts-clause-fault
+returns-in_err-parts-clause-fault c =
+    let p = err_from_is_err_and c.from_residual.result c.from_residual.ensures.1 in
+    rw (p.1, p.2) (fault_first c.args.bytes.now c.in_err-parts.field-0.0 (omega arith) c.in_err-parts.ensures)
+
+pub returns-in_err-parts-clause-exact : goal.returns-in_err-parts-clause-exact
+returns-in_err-parts-clause-exact c d first =
+    let p = err_from_is_err_and c.from_residual.result c.from_residual.ensures.1 in
+    rw (p.1, p.2) (fault_exact c.args.bytes.now c.in_err-parts.field-0.0 (laws_of c.one_pool.ensures.same c.one_pool.ensures.no_fault c.one_pool.ensures.one_fault) (omega arith) c.in_err-parts.ensures d first)
+
+pub returns-then-end-bytes-clause-only : goal.returns-then-end-bytes-clause-only
+returns-then-end-bytes-clause-only c d within whole =
+    let same = stands_only c.args.bytes.now (class_of_parts c.in_ok-parts.parts) c.in_ok-parts.end c.in_ok-parts.ensures (laws_of c.one_pool.ensures.same c.one_pool.ensures.no_fault c.one_pool.ensures.one_fault) d whole in
+    absurd (omega (arith, same.1))
+
+pub returns-then-end-bytes-clause-fault : goal.returns-then-end-bytes-clause-fault
+returns-then-end-bytes-clause-fault c =
+    inr (stands_trailing c.args.bytes.now (class_of_parts c.in_ok-parts.parts) c.in_ok-parts.end c.in_ok-parts.ensures (omega arith) (omega arith))
+
+pub returns-then-end-bytes-clause-exact : goal.returns-then-end-bytes-clause-exact
+returns-then-end-bytes-clause-exact c d first =
+    inr (stands_fault c.args.bytes.now (class_of_parts c.in_ok-parts.parts) c.in_ok-parts.end c.in_ok-parts.ensures (laws_of c.one_pool.ensures.same c.one_pool.ensures.no_fault c.one_pool.ensures.one_fault) d (omega arith) first).1
 
 pub of_parts-requires : goal.of_parts-requires
-of_parts-requires c =
-    (all_takes c.args.bytes.now (class_of_parts c.in_ok-parts.parts) (λ i. omega (arith, c.type_inv.bytes i)) c.in_ok-parts.ensures).fits
+of_parts-requires c = record { parts = stands_sound c.args.bytes.now (class_of_parts c.in_ok-parts.parts) c.in_ok-parts.end c.in_ok-parts.ensures }
 
-pub returns-in-Some-clause-found : goal.returns-in-Some-clause-found
-returns-in-Some-clause-found c =
-    let read = all_takes c.args.bytes.now (class_of_parts c.in_ok-parts.parts) (λ i. omega (arith, c.type_inv.bytes i)) c.in_ok-parts.ensures in
-    is_spelled c.args.bytes.now (class_of_parts c.in_ok-parts.parts) c.in-Some.class read c.in-Some.ensures.names c.in-Some.ensures.found
+pub returns-clause-found : goal.returns-clause-found
+returns-clause-found c =
+    rw c.of_parts.ensures (stands_whole c.args.bytes.now (class_of_parts c.in_ok-parts.parts) c.in_ok-parts.end c.in_ok-parts.ensures (omega arith))
 
-pub returns-in-Some-clause-form : goal.returns-in-Some-clause-form
-returns-in-Some-clause-form c =
-    let read = all_takes c.args.bytes.now (class_of_parts c.in_ok-parts.parts) (λ i. omega (arith, c.type_inv.bytes i)) c.in_ok-parts.ensures in
-    has_form c.args.bytes.now (class_of_parts c.in_ok-parts.parts) c.in-Some.class read c.in-Some.ensures.found
+pub returns-clause-only : goal.returns-clause-only
+returns-clause-only c d within whole =
+    c.of_parts.ensures ∙ (stands_only c.args.bytes.now (class_of_parts c.in_ok-parts.parts) c.in_ok-parts.end c.in_ok-parts.ensures (laws_of c.one_pool.ensures.same c.one_pool.ensures.no_fault c.one_pool.ensures.one_fault) d whole).0
 
-pub returns-in-Some-clause-only : goal.returns-in-Some-clause-only
-returns-in-Some-clause-only c = λ d within spelled form.
-    c.in-Some.ensures.found ∙ given_is (class_of_parts c.in_ok-parts.parts) d (all_of c.args.bytes.now) c.in_ok-parts.ensures (all_again c.args.bytes.now d spelled form)
-
-pub returns-in-None-clause-only : goal.returns-in-None-clause-only
-returns-in-None-clause-only c = λ d within spelled form.
-    let same = given_is (class_of_parts c.in_ok-parts.parts) d (all_of c.args.bytes.now) c.in_ok-parts.ensures (all_again c.args.bytes.now d spelled form) in
-    absurd (c.in-None.ensures.none (subst (λ x. IsClass x) (sym same) spelled.names))
+pub returns-clause-exact : goal.returns-clause-exact
+returns-clause-exact c d first =
+    let fault = stands_fault c.args.bytes.now (class_of_parts c.in_ok-parts.parts) c.in_ok-parts.end c.in_ok-parts.ensures (laws_of c.one_pool.ensures.same c.one_pool.ensures.no_fault c.one_pool.ensures.one_fault) d (omega arith) first in
+    absurd (omega (arith, fault.0))

@@ -1,6 +1,7 @@
 use Rattle.std.proofs.Common.{◌≡◌, ◌++◌, length, take}
 use Rattle.std.specs.List.{flat_map}
-use Rattle.je_class.specs.Layout.{u2, attribute_layout}
+use Rattle.je_consts.specs.Layout.{u2}
+use Rattle.je_class.specs.Layout.{attribute_layout}
 use Rattle.je_class.proofs.writing.put_attributes.Given as goal
 
 abbrev pub invariant-loop-attribute : goal.invariant-loop-attribute

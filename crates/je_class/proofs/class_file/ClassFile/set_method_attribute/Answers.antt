@@ -1,7 +1,7 @@
 use Rattle.std.proofs.Common.{◌≡◌, length, sym, ◌∙◌}
 use Rattle.std.proofs.lemmas.List.{with_items_is}
 use Rattle.je_class.specs.Class.{changed_at, with_attribute}
-use Rattle.je_class.specs.Parts.{class_of_parts}
+use Rattle.je_class.specs.InMemory.{class_of_parts}
 use Rattle.je_class.proofs.Changes.{length-changed_at, IsSound-with_method_attribute}
 use Rattle.je_class.proofs.class_file.ClassFile.set_method_attribute.Goals as goal
 

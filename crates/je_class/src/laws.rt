@@ -1,0 +1,22 @@
+//! A law of the bytes, over all class files.
+
+ghost use Rattle.std.specs.Prelude.{◌≡◌, ℕ, ◌≤◌, List, length};
+ghost use Rattle.je_class.specs.declared.fault.ClassFault.{ClassFault};
+ghost use Rattle.je_class.specs.Class.{Class};
+ghost use Rattle.je_class.specs.ClassBytes.{ClassBytes};
+ghost use Rattle.je_class.specs.Faults.{FirstFault};
+
+use je_consts::one_pool;
+
+/// Bytes are one class file or have one first fault.
+pub fn one_class()
+    ensures same { (bytes : List ℕ) (c d : Class) →
+        ClassBytes bytes c → ClassBytes bytes d → c ≡ d }
+    ensures no_fault { (bytes : List ℕ) (c : Class) (d : ClassFault) →
+        length bytes ≤ 16777216 → ClassBytes bytes c → FirstFault bytes d → ⊥ }
+    ensures one_fault { (bytes : List ℕ) (d e : ClassFault) →
+        FirstFault bytes d → FirstFault bytes e → d ≡ e }
+{
+    // The law of the layer below that the proof stands on.
+    one_pool();
+}
