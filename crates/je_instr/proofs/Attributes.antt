@@ -1,10 +1,10 @@
 -- The content of a Code attribute and the parts of it.
 use Rattle.std.proofs.Common.{◌≡◌, ℕ, List, [], ◌∷◌, ◌++◌, length, Some, sym, ap, subst, ◌∙◌, arith}
-use Rattle.je_class.specs.Layout.{u2, u4, table, attribute_layout}
+use Rattle.je_consts.specs.Layout.{u2, u4, table}
 use Rattle.je_instr.specs.declared.instr.Instr.{Instr}
 use Rattle.je_instr.specs.declared.code.MethodCode.{MethodCode}
 use Rattle.je_instr.specs.Spelling.{code_bytes}
-use Rattle.je_instr.specs.Code.{Code, CodeBytes, handler_layout}
+use Rattle.je_instr.specs.Code.{Code, CodeBytes, handler_layout, attribute_layout}
 use Rattle.je_instr.specs.Plain.{plain_code}
 use Rattle.je_instr.specs.Reading.{Head, head_of}
 use Rattle.je_instr.proofs.Spelled.{IsBytes, some_is}

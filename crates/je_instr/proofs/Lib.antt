@@ -6,3 +6,4 @@ pub mod Views
 pub mod Steps
 pub mod Programs
 pub mod Opcodes
+pub mod Contents

@@ -8,7 +8,7 @@ pub mod View
 pub mod Sample
 pub mod Spelling
 pub mod Code
-pub mod ProgramOf
+pub mod Resolves
 pub mod Callee
 pub mod Plain
 pub mod Reading

@@ -2,12 +2,12 @@
 
 ghost use Rattle.std.specs.Prelude.{◌≡◌, ℕ, ◌↔◌, List, Some, codes, IsTrue, IfSome, IfNone};
 ghost use Rattle.std.specs.Option.{option_map};
-ghost use Rattle.je_instr.specs.Content.{Member, Method, content_at};
+ghost use Rattle.je_instr.specs.Content.{Member, Method, name_and_type_at, content_at};
 ghost use Rattle.je_instr.specs.Callee.{of_method};
-ghost use Rattle.je_instr.specs.ProgramOf.{IsCallable};
+ghost use Rattle.je_instr.specs.Resolves.{IsCallable};
 
 use je_base::Text;
-use je_class::{Const, class_at, const_at, name_and_type_at};
+use je_consts::{Const, Consts};
 use je_desc::is_class_name;
 
 /// The name of constructors (JVMS 2.9.1).
@@ -25,15 +25,27 @@ fn is_callable(class: &[u8], name: &[u8], descriptor: &[u8]) -> bool
     is_class_name(class) && name != CONSTRUCTOR && name != INITIALISER && descriptor == NO_ARGUMENTS
 }
 
+/// The name and the descriptor of a NameAndType.
+fn name_and_type_at(consts: &Consts, index: u16) -> Option<(&Text, &Text)>
+    ensures { option_map (λ pair. (pair.0.now, pair.1.now)) result ≡ name_and_type_at consts.now index }
+{
+    let Some(Const::NameAndType(name, descriptor)) = consts.get(index) else {
+        return None;
+    };
+    let name = consts.text(*name)?;
+    let descriptor = consts.text(*descriptor)?;
+    Some((name, descriptor))
+}
+
 /// The class, the name and the descriptor of a method.
-fn method_at(consts: &[Const], index: u16) -> Option<(&Text, &Text, &Text)>
+fn method_at(consts: &Consts, index: u16) -> Option<(&Text, &Text, &Text)>
     ensures { option_map (λ m. Member Method m.0.now m.1.now m.2.now) result
         ≡ of_method (content_at consts.now index) }
 {
-    let Some(Const::Method(class, member)) = const_at(consts, index) else {
+    let Some(Const::Method(class, member)) = consts.get(index) else {
         return None;
     };
-    let class = class_at(consts, *class)?;
+    let class = consts.class_name(*class)?;
     let (name, descriptor) = name_and_type_at(consts, *member)?;
     Some((class, name, descriptor))
 }
@@ -42,7 +54,7 @@ fn method_at(consts: &[Const], index: u16) -> Option<(&Text, &Text, &Text)>
 ///
 /// `None`: the constant is no method, or a method that no instruction may call: one of an array, a
 /// constructor, a class initialiser, or so far one with parameters or a result.
-pub fn called_method(consts: &[Const], index: u16) -> Option<(&Text, &Text)>
+pub fn called_method(consts: &Consts, index: u16) -> Option<(&Text, &Text)>
     ensures found { IfSome result (λ m. content_at consts.now index
         ≡ Some (Member Method m.0.now m.1.now (codes "()V"))) }
     ensures callable { IfSome result (λ m. IsCallable m.0.now m.1.now (codes "()V")) }

@@ -1,18 +1,22 @@
 //! Laws of the machine and of the bytes, over all runs and all programs.
 
 ghost use Rattle.std.specs.Prelude.{◌≡◌, ℕ, ◌-◌, ◌≤◌, List, [], ◌∷◌, Some, None, IsSome};
-ghost use Rattle.je_class.specs.declared.constant.Const.{Const};
-ghost use Rattle.je_class.specs.declared.member.Member.{Member};
-ghost use Rattle.je_class.specs.Class.{Class};
+ghost use Rattle.std.specs.List.{AllByRecursion, AllZip};
+ghost use Rattle.je_consts.specs.declared.constant.Const.TheVariants as entry;
+ghost use Rattle.je_consts.specs.declared.constant.MemberTag as consts;
+ghost use Rattle.je_consts.specs.declared.place.Place.{Place};
+ghost use Rattle.je_consts.specs.Adding.{NamesMember};
+ghost use Rattle.je_consts.specs.Pool.{const_at, class_at, text_at, NamesAndTypes, IsPool};
 ghost use Rattle.je_instr.specs.declared.instr.Instr.{Instr};
-ghost use Rattle.je_instr.specs.Content.{Content};
+ghost use Rattle.je_instr.specs.Content.{Content, Class, Str, Member, NameAndType, MethodHandle, MethodType, InvokeDynamic, sort_of, content_at};
 ghost use Rattle.je_instr.specs.Value.{Value, Obj};
 ghost use Rattle.je_instr.specs.Heap.{Heap, Classes};
 ghost use Rattle.je_instr.specs.Operation.{Operation, Nop, Return, InvokeStatic, Program};
 ghost use Rattle.je_instr.specs.Machine.{State, Step, Returned, Thrown, machine_step, iterate_all};
-ghost use Rattle.je_instr.specs.ProgramOf.{ProgramOf, Resolves};
+ghost use Rattle.je_instr.specs.Code.{Code, CodeBytes};
+ghost use Rattle.je_instr.specs.Resolves.{Resolves};
 ghost use Rattle.je_instr.specs.Sample.{call_event, value_answer, throw_answer, Shows};
-ghost use Rattle.je_instr.specs.Spelling.{instr_bytes};
+ghost use Rattle.je_instr.specs.Spelling.{instr_bytes, code_bytes, FitsInstr};
 ghost use Rattle.je_instr.specs.View.{View, IsViewPrefix, IsSteady, view_of, with_more};
 
 /// Beginning a view is a partial order.
@@ -33,18 +37,48 @@ pub fn longer_bounds()
         → iterate_all step n s ≡ with_more (n - m) (iterate_all step m s) }
 {}
 
-/// A method has at most one program.
+/// Bytes are one program at most: one code, of one list of instructions, with one list of operations.
 pub fn one_program()
-    ensures { (c : Class) (m : Member) (p q : Program) → ProgramOf c m p → ProgramOf c m q → p ≡ q }
+    ensures code { (info : List ℕ) (c d : Code) → CodeBytes info c → CodeBytes info d → c.code ≡ d.code }
+    ensures instrs { (is js : List Instr) → AllByRecursion FitsInstr is → AllByRecursion FitsInstr js
+        → code_bytes is ≡ code_bytes js → is ≡ js }
+    ensures operations { (consts : List Place) (is : List Instr) (a b : List Operation) →
+        AllZip (Resolves consts) is a → AllZip (Resolves consts) is b → a ≡ b }
+{}
+
+/// What the entries of a constant pool say, with what they name in place (JVMS 4.4).
+pub fn constants_mean()
+    // Each entry says something.
+    ensures each { (consts : List Place) (i : ℕ) → IsPool consts
+        → IsSome (const_at consts i) → IsSome (content_at consts i) }
+    ensures class { (consts : List Place) (i : ℕ) (name : List ℕ) →
+        class_at consts i ≡ Some name → content_at consts i ≡ Some (Class name) }
+    ensures string { (consts : List Place) (i t : ℕ) (text : List ℕ) →
+        const_at consts i ≡ Some (entry.Str t) → text_at consts t ≡ Some text
+        → content_at consts i ≡ Some (Str text) }
+    ensures member { (kind : consts.MemberTag) (consts : List Place) (i : ℕ) (owner name descriptor : List ℕ) →
+        NamesMember kind consts i owner name descriptor
+        → content_at consts i ≡ Some (Member (sort_of kind) owner name descriptor) }
+    ensures pair { (consts : List Place) (i : ℕ) (name descriptor : List ℕ) →
+        NamesAndTypes consts i name descriptor → content_at consts i ≡ Some (NameAndType name descriptor) }
+    ensures handle { (kind : consts.MemberTag) (consts : List Place) (i k m : ℕ) (owner name descriptor : List ℕ) →
+        const_at consts i ≡ Some (entry.MethodHandle k m) → NamesMember kind consts m owner name descriptor
+        → content_at consts i ≡ Some (MethodHandle k (sort_of kind) owner name descriptor) }
+    ensures method_type { (consts : List Place) (i d : ℕ) (descriptor : List ℕ) →
+        const_at consts i ≡ Some (entry.MethodType d) → text_at consts d ≡ Some descriptor
+        → content_at consts i ≡ Some (MethodType descriptor) }
+    ensures dynamic { (consts : List Place) (i b m : ℕ) (name descriptor : List ℕ) →
+        const_at consts i ≡ Some (entry.InvokeDynamic b m) → NamesAndTypes consts m name descriptor
+        → content_at consts i ≡ Some (InvokeDynamic b name descriptor) }
 {}
 
 /// What an instruction of a program is, by its opcode (JVMS 6.5).
 pub fn opcodes_mean()
-    ensures nop { (consts : List Const) (i : Instr) (o : Operation) →
+    ensures nop { (consts : List Place) (i : Instr) (o : Operation) →
         instr_bytes i ≡ 0 ∷ [] → Resolves consts i o → o ≡ Nop }
-    ensures leaves { (consts : List Const) (i : Instr) (o : Operation) →
+    ensures leaves { (consts : List Place) (i : Instr) (o : Operation) →
         instr_bytes i ≡ 177 ∷ [] → Resolves consts i o → o ≡ Return }
-    ensures calls { (consts : List Const) (i : Instr) (o : Operation) (operands : List ℕ) →
+    ensures calls { (consts : List Place) (i : Instr) (o : Operation) (operands : List ℕ) →
         instr_bytes i ≡ 184 ∷ operands → Resolves consts i o
         → (method : Content) × (o ≡ InvokeStatic method) }
 {}

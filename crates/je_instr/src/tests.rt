@@ -1,6 +1,5 @@
 use super::*;
-use je_base::Text;
-use je_class::Const;
+use je_consts::Consts;
 use std::test::*;
 
 /// Calls the method of constant 10 and returns.
@@ -41,35 +40,31 @@ fn not_yet(rt: HostRuntime) {
     }
 }
 
-/// A text of ASCII.
-fn text(rt: HostRuntime, bytes: &[u8]) -> Result<Const, Fail> {
-    let found = Text::from_bytes(rt.alloc(), bytes)
-        .ok()
-        .ok_or("there is memory")?;
-    Ok(Const::Utf8(found.ok_or("the bytes are a text")?))
-}
+/// A pool of which the sixth entry is the method `A.g()V`.
+const CALLED: &[u8] =
+    b"\x00\x07\x01\x00\x01A\x01\x00\x01g\x01\x00\x03()V\x07\x00\x01\x0c\x00\x02\x00\x03\x0a\x00\x04\x00\x05";
 
-/// Constants of which the sixth is the method `A.NAME()V`.
-fn constants(rt: HostRuntime, name: &[u8]) -> Result<Vec<Const>, Fail> {
-    let mut consts = Vec::new(rt.alloc());
-    consts.push(text(rt, b"A")?)?;
-    consts.push(text(rt, name)?)?;
-    consts.push(text(rt, b"()V")?)?;
-    consts.push(Const::Class(1))?;
-    consts.push(Const::NameAndType(2, 3))?;
-    consts.push(Const::Method(4, 5))?;
-    Ok(consts)
+/// The same with the constructor `A.<init>()V`.
+const CONSTRUCTED: &[u8] =
+    b"\x00\x07\x01\x00\x01A\x01\x00\x06<init>\x01\x00\x03()V\x07\x00\x01\x0c\x00\x02\x00\x03\x0a\x00\x04\x00\x05";
+
+fn pool(rt: &HostRuntime, bytes: &[u8]) -> Result<Consts, Fail> {
+    match Consts::read(rt.alloc(), bytes, 0) {
+        Ok((consts, _)) => Ok(consts),
+        Err(_) => Err("no pool".into()),
+    }
 }
 
 #[test]
 fn callee(rt: HostRuntime) -> Result<(), Fail> {
-    let consts = constants(rt, b"g")?;
+    let consts = pool(&rt, CALLED)?;
     let (class, name) = called_method(&consts, 6).ok_or("the method may be called")?;
     assert_eq!(rt; class.bytes(), b"A".as_slice());
     assert_eq!(rt; name.bytes(), b"g".as_slice());
-    assert!(rt; called_method(&consts, 5).is_none());
-    assert!(rt; called_method(&consts, 7).is_none());
-    let consts = constants(rt, b"<init>")?;
+    for index in [0, 5, 7] {
+        assert!(rt; called_method(&consts, index).is_none(), "at {index}");
+    }
+    let consts = pool(&rt, CONSTRUCTED)?;
     assert!(rt; called_method(&consts, 6).is_none());
     Ok(())
 }

@@ -1,5 +1,14 @@
-use Rattle.je_instr.proofs.Programs.{one_program}
+use Rattle.std.proofs.Common.{sym}
+use Rattle.je_instr.proofs.Attributes.{one_code}
+use Rattle.je_instr.proofs.Programs.{all_resolve_once}
+use Rattle.je_instr.proofs.Spelled.{one_spelling}
 use Rattle.je_instr.proofs.laws.one_program.Goals as goal
 
-pub returns : goal.returns
-returns c = one_program
+pub returns-clause-code : goal.returns-clause-code
+returns-clause-code c = one_code
+
+pub returns-clause-instrs : goal.returns-clause-instrs
+returns-clause-instrs c = λ is js fits fits' e. sym (one_spelling is js fits fits' e)
+
+pub returns-clause-operations : goal.returns-clause-operations
+returns-clause-operations c = all_resolve_once
