@@ -1,15 +1,20 @@
 -- What excludes what among the causes of a stop.
-use Rattle.std.proofs.Common.{◌≡◌, ℕ, List, Option, Some, None, ◌⊎◌, inl, inr, sym, ap, subst, ◌∙◌}
+use Rattle.std.proofs.Common.{◌≡◌, ℕ, ◌≤◌, List, length, Option, Some, None, ◌⊎◌, inl, inr, sym, ap, subst, ◌∙◌}
 use Rattle.std.specs.Prelude.{IfSome, ⊤}
 use Rattle.std.specs.FinMap.{get}
 use Rattle.je_base.specs.Files.{Contents}
+use Rattle.je_consts.specs.Pool.{class_at}
+use Rattle.je_class.specs.declared.fault.ClassFault.{ClassFault}
 use Rattle.je_class.specs.Class.{Class}
+use Rattle.je_class.specs.ClassBytes.{ClassBytes}
+use Rattle.je_class.specs.Faults.{FirstFault}
 use Rattle.je_session.specs.declared.plan.Script.{Script}
 use Rattle.je_session.specs.declared.status.Status.{Status}
 use Rattle.je_session.specs.declared.status.Status.TheVariants as status
 use Rattle.je_session.specs.Forms.{IsLine, IsScript, ClassForm, ReadsScript, ReadsClass, class_path}
 use Rattle.je_session.specs.Fulfils.{HasWritten}
-use Rattle.je_session.specs.Cause.{Refusal, NoScript, NotYetScript, NoClass, NotYetClass, NoLine, Refuses, ReadingFailed, NoMemory, IsRefusal, IsQuiet}
+use Rattle.je_session.specs.Kept.{MethodForm}
+use Rattle.je_session.specs.Cause.{Refusal, NoScript, NotYetScript, NoClass, BadClass, WrongName, NotYetClass, NoLine, Refuses, ReadingFailed, NoMemory, IsClassRefusal, RefusesClass, IsRefusal, IsQuiet}
 use Rattle.je_session.specs.Output.{Put, Write, Taken, Held}
 use Rattle.je_session.specs.ReportText.{ReportText, Outcome, Stopped, Came, Happens, answer_of}
 use Rattle.je_session.proofs.ScriptLemmas.{one_script}
@@ -27,56 +32,93 @@ found_at : (files : Contents) (a b text : List ℕ) → a ≡ b → get files b 
 found_at files a b text e h = ap (get files) e ∙ h
 
 -- the words and the files name one script
-pub one_read : (words : List (List ℕ)) (files : Contents) (a b : Script) → ReadsScript words files a → ReadsScript words files b → a ≡ b
+one_read : (words : List (List ℕ)) (files : Contents) (a b : Script) → ReadsScript words files a → ReadsScript words files b → a ≡ b
 one_read words files a b f g =
     let path = one_path words f.path g.path f.line g.line in
     let text = one_found files f.path f.text g.text f.found (found_at files f.path g.path g.text path g.found) in
     one_script f.text a b f.is_script.form (subst (λ (t : List ℕ). IsScript t b) (sym text) g.is_script).form
 
--- where script and class are read nothing is refused
-pub no_refusal : (words : List (List ℕ)) (files : Contents) (script : Script) (source : Class) → ReadsScript words files script → ReadsClass files script source
-    → (refusal : Refusal) → IsRefusal words files refusal → ⊥
-no_refusal words files script source reads finds (NoScript path) (line, none) =
-    never_both files path reads.text (found_at files path reads.path reads.text (one_path words path reads.path line reads.line) reads.found) none
-no_refusal words files script source reads finds NotYetScript (path, text, line, found, none) =
-    let same = one_found files path text reads.text found (found_at files path reads.path reads.text (one_path words path reads.path line reads.line) reads.found) in
-    none script (subst (λ (t : List ℕ). IsScript t script) (sym same) reads.is_script)
-no_refusal words files script source reads finds (NoClass name) (other, reads_other, name_is, none) =
-    let same = one_read words files script other reads reads_other in
-    let at : class_path name ≡ class_path script.class_name = ap class_path (sym (ap (λ (s : Script). s.class_name) same ∙ name_is)) in
-    never_both files (class_path name) finds.bytes (found_at files (class_path name) (class_path script.class_name) finds.bytes at finds.found) none
-no_refusal words files script source reads finds NotYetClass (other, bytes, reads_other, found, none) =
+-- ---- what is read is not refused
+
+-- bytes spell at most one class, and have no first fault then
+pub record ClassLaws : Type 0 where
+  pub same : (bytes : List ℕ) (c d : Class) → ClassBytes bytes c → ClassBytes bytes d → c ≡ d
+  pub no_fault : (bytes : List ℕ) (c : Class) (fault : ClassFault) → length bytes ≤ 16777216 → ClassBytes bytes c → FirstFault bytes fault → ⊥
+
+abbrev pub laws_of : ((bytes : List ℕ) (c d : Class) → ClassBytes bytes c → ClassBytes bytes d → c ≡ d)
+    → ((bytes : List ℕ) (c : Class) (fault : ClassFault) → length bytes ≤ 16777216 → ClassBytes bytes c → FirstFault bytes fault → ⊥) → ClassLaws
+laws_of same no_fault = record { same = same; no_fault = no_fault }
+
+other_name : (script : Script) (source other : Class) (name found : List ℕ) → other ≡ source → class_at source.consts source.this_class ≡ Some script.class_name
+    → class_at other.consts other.this_class ≡ Some found → script.class_name ≡ name → found ≡ name
+other_name script source other name found same wanted there is = cc
+
+-- a class that has the form is not refused
+has_the_form : ClassLaws → (script : Script) (bytes : List ℕ) (source : Class) → ClassForm script bytes source → (refusal : Refusal) → IsClassRefusal script bytes refusal → ⊥
+has_the_form laws script bytes source form (NoScript path) is = is
+has_the_form laws script bytes source form NotYetScript is = is
+has_the_form laws script bytes source form (NoClass name) is = is
+has_the_form laws script bytes source form (BadClass name fault) (name_is, first) = laws.no_fault bytes source fault form.short form.bytes_are first
+has_the_form laws script bytes source form (WrongName name found) (name_is, other, file, is_file, there) =
+    other (other_name script source file name found (laws.same bytes file source is_file.bytes_are form.bytes_are) form.name there name_is)
+has_the_form laws script bytes source form NotYetClass (file, is_file, there, inl later) =
+    later (ap (λ (c : Class). c.major) (laws.same bytes file source is_file.bytes_are form.bytes_are) ∙ form.version)
+has_the_form laws script bytes source form NotYetClass (file, is_file, there, inr no_method) =
+    no_method (subst (λ (c : Class). MethodForm c script.plan.name) (laws.same bytes source file form.bytes_are is_file.bytes_are) form.method)
+
+-- nor is one that is read
+no_class_refusal : ClassLaws → (words : List (List ℕ)) (files : Contents) (script : Script) (source : Class) → ReadsScript words files script → ReadsClass files script source
+    → (refusal : Refusal) → RefusesClass words files refusal → ⊥
+no_class_refusal laws words files script source reads finds refusal (other, bytes, reads_other, found, is) =
     let same = one_read words files script other reads reads_other in
     let at : class_path other.class_name ≡ class_path script.class_name = ap (λ (s : Script). class_path s.class_name) (sym same) in
     let bytes_are = one_found files (class_path other.class_name) bytes finds.bytes found (found_at files (class_path other.class_name) (class_path script.class_name) finds.bytes at finds.found) in
     let form : ClassForm other finds.bytes source = subst (λ (s : Script). ClassForm s finds.bytes source) same finds.is_class in
-    none source (subst (λ (b : List ℕ). ClassForm other b source) (sym bytes_are) form)
+    has_the_form laws other bytes source (subst (λ (b : List ℕ). ClassForm other b source) (sym bytes_are) form) refusal is
+
+-- where script and class are read nothing is refused
+no_refusal : ClassLaws → (words : List (List ℕ)) (files : Contents) (script : Script) (source : Class) → ReadsScript words files script → ReadsClass files script source
+    → (refusal : Refusal) → IsRefusal words files refusal → ⊥
+no_refusal laws words files script source reads finds (NoScript path) (line, none) =
+    never_both files path reads.text (found_at files path reads.path reads.text (one_path words path reads.path line reads.line) reads.found) none
+no_refusal laws words files script source reads finds NotYetScript (path, text, line, found, none) =
+    let same = one_found files path text reads.text found (found_at files path reads.path reads.text (one_path words path reads.path line reads.line) reads.found) in
+    none script (subst (λ (t : List ℕ). IsScript t script) (sym same) reads.is_script)
+no_refusal laws words files script source reads finds (NoClass name) (other, reads_other, name_is, none) =
+    let same = one_read words files script other reads reads_other in
+    let at : class_path name ≡ class_path script.class_name = ap class_path (sym (ap (λ (s : Script). s.class_name) same ∙ name_is)) in
+    never_both files (class_path name) finds.bytes (found_at files (class_path name) (class_path script.class_name) finds.bytes at finds.found) none
+no_refusal laws words files script source reads finds (BadClass name fault) is = no_class_refusal laws words files script source reads finds (BadClass name fault) is
+no_refusal laws words files script source reads finds (WrongName name found) is = no_class_refusal laws words files script source reads finds (WrongName name found) is
+no_refusal laws words files script source reads finds NotYetClass is = no_class_refusal laws words files script source reads finds NotYetClass is
 
 -- a refusal is of words that are a line
-pub line_of_refusal : (words : List (List ℕ)) (files : Contents) (refusal : Refusal) → IsRefusal words files refusal → (path : List ℕ) × IsLine words path
+line_of_refusal : (words : List (List ℕ)) (files : Contents) (refusal : Refusal) → IsRefusal words files refusal → (path : List ℕ) × IsLine words path
 line_of_refusal words files (NoScript path) (line, none) = (path, line)
 line_of_refusal words files NotYetScript (path, text, line, found, none) = (path, line)
 line_of_refusal words files (NoClass name) (script, reads, name_is, none) = (reads.path, reads.line)
-line_of_refusal words files NotYetClass (script, bytes, reads, found, none) = (reads.path, reads.line)
+line_of_refusal words files (BadClass name fault) (script, bytes, reads, found, is) = (reads.path, reads.line)
+line_of_refusal words files (WrongName name other) (script, bytes, reads, found, is) = (reads.path, reads.line)
+line_of_refusal words files NotYetClass (script, bytes, reads, found, is) = (reads.path, reads.line)
 
 -- what happened where script and class are read and nothing failed
-complete_by : {files_fault out_fault : Type 0} (words : List (List ℕ)) (files : Contents) (answer : Status) (script : Script) (source : Class) (outcome : Outcome)
+complete_by : ClassLaws → {files_fault out_fault : Type 0} (words : List (List ℕ)) (files : Contents) (answer : Status) (script : Script) (source : Class) (outcome : Outcome)
     → Happens words (Some files) files_fault out_fault outcome → answer ≡ answer_of outcome → ReadsScript words files script → ReadsClass files script source → (files_fault → ⊥) → (out_fault → ⊥)
     → (answer ≡ status.Done) ⊎ (answer ≡ status.Memory)
-complete_by words files answer script source (Stopped NoLine) explains is reads finds no_files no_out = absurd (explains reads.path reads.line)
-complete_by words files answer script source (Stopped (Refuses refusal)) explains is reads finds no_files no_out = absurd (no_refusal words files script source reads finds refusal explains)
-complete_by words files answer script source (Stopped (ReadingFailed path)) explains is reads finds no_files no_out = absurd (no_files explains.0)
-complete_by words files answer script source (Stopped NoMemory) explains is reads finds no_files no_out = inr is
-complete_by words files answer script source (Came e matched None) happens is reads finds no_files no_out = inl is
-complete_by words files answer script source (Came e matched (Some (Put piece))) happens is reads finds no_files no_out = absurd (no_out happens.2)
-complete_by words files answer script source (Came e matched (Some (Write path bytes))) happens is reads finds no_files no_out = absurd (no_files happens.2)
+complete_by laws words files answer script source (Stopped NoLine) explains is reads finds no_files no_out = absurd (explains reads.path reads.line)
+complete_by laws words files answer script source (Stopped (Refuses refusal)) explains is reads finds no_files no_out = absurd (no_refusal laws words files script source reads finds refusal explains)
+complete_by laws words files answer script source (Stopped (ReadingFailed path)) explains is reads finds no_files no_out = absurd (no_files explains.0)
+complete_by laws words files answer script source (Stopped NoMemory) explains is reads finds no_files no_out = inr is
+complete_by laws words files answer script source (Came e matched None) happens is reads finds no_files no_out = inl is
+complete_by laws words files answer script source (Came e matched (Some (Put piece))) happens is reads finds no_files no_out = absurd (no_out happens.3)
+complete_by laws words files answer script source (Came e matched (Some (Write path bytes))) happens is reads finds no_files no_out = absurd (no_files happens.3)
 
-pub complete_from : {files_fault out_fault err_fault : Type 0} (words : List (List ℕ)) (files : Option Contents) (answer : Status) (old new : Held) (err_old err_new : Taken)
+pub complete_from : ClassLaws → {files_fault out_fault err_fault : Type 0} (words : List (List ℕ)) (files : Option Contents) (answer : Status) (old new : Held) (err_old err_new : Taken)
     → files ≡ old.contents → ReportText words files_fault out_fault err_fault answer old new err_old err_new → (script : Script) (source : Class)
     → IfSome files (λ before. ReadsScript words before script → ReadsClass before script source → (files_fault → ⊥) → (out_fault → ⊥) → (answer ≡ status.Done) ⊎ (answer ≡ status.Memory))
-complete_from words None answer old new err_old err_new is report script source = tt
-complete_from {files_fault} {out_fault} words (Some files) answer old new err_old err_new is report script source = λ reads finds no_files no_out.
-    complete_by words files answer script source report.outcome (subst (λ (f : Option Contents). Happens words f files_fault out_fault report.outcome) (sym is) report.happens) report.answers reads finds no_files no_out
+complete_from laws words None answer old new err_old err_new is report script source = tt
+complete_from laws {files_fault} {out_fault} words (Some files) answer old new err_old err_new is report script source = λ reads finds no_files no_out.
+    complete_by laws words files answer script source report.outcome (subst (λ (f : Option Contents). Happens words f files_fault out_fault report.outcome) (sym is) report.happens) report.answers reads finds no_files no_out
 
 -- with a line the answer is not Usage
 not_usage : (files_fault out_fault : Type 0) (words : List (List ℕ)) (files : Option Contents) (answer : Status) (outcome : Outcome) (path : List ℕ)
@@ -94,13 +136,13 @@ no_usage {files_fault} {out_fault} words answer old new err_old err_new report p
     not_usage files_fault out_fault words old.contents answer report.outcome path line report.happens report.answers usage
 
 -- what is refused is not done, and its words are no faulty command line
-pub refuses_from : {files_fault out_fault err_fault : Type 0} (words : List (List ℕ)) (files after : Option Contents) (answer : Status) (old new : Held) (err_old err_new : Taken)
+pub refuses_from : ClassLaws → {files_fault out_fault err_fault : Type 0} (words : List (List ℕ)) (files after : Option Contents) (answer : Status) (old new : Held) (err_old err_new : Taken)
     → ReportText words files_fault out_fault err_fault answer old new err_old err_new → (answer ≡ status.Done → HasWritten words files after (λ _. ⊤))
     → (refusal : Refusal) → IfSome files (λ before. IsRefusal words before refusal → (answer ≡ status.Done → ⊥) × (answer ≡ status.Usage → ⊥))
-refuses_from words None after answer old new err_old err_new report written refusal = tt
-refuses_from words (Some files) after answer old new err_old err_new report written refusal = λ is.
+refuses_from laws words None after answer old new err_old err_new report written refusal = tt
+refuses_from laws words (Some files) after answer old new err_old err_new report written refusal = λ is.
     let line = line_of_refusal words files refusal is in (
-      λ done. let w = written done in no_refusal words files w.0.script w.0.source w.1.read.script w.1.read.class refusal is,
+      λ done. let w = written done in no_refusal laws words files w.0.script w.0.source w.1.read.script w.1.read.class refusal is,
       λ usage. no_usage words answer old new err_old err_new report line.0 line.1 usage,
     )
 

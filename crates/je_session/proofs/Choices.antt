@@ -5,10 +5,10 @@ use Rattle.std.specs.List.{AllZip, find}
 use Rattle.std.specs.Option.{option_map}
 use Rattle.std.proofs.lemmas.List.{take_more, map-append}
 use Rattle.std.proofs.lemmas.Slice.Zip.{all_zipped_more}
-use Rattle.je_class.specs.declared.constant.Const.{Const}
+use Rattle.je_consts.specs.declared.place.Place.{Place}
 use Rattle.je_instr.specs.declared.instr.Instr.{Instr}
 use Rattle.je_instr.specs.Operation.{Operation, Nop, Return}
-use Rattle.je_instr.specs.ProgramOf.{Resolves}
+use Rattle.je_instr.specs.Resolves.{Resolves}
 use Rattle.je_session.specs.declared.plan.Fragment.{Fragment}
 use Rattle.je_session.specs.declared.plan.Rule.{Rule}
 use Rattle.je_session.specs.Chosen.{fits}
@@ -26,7 +26,7 @@ pub chosen_fragment-Return : (rules : List Rule) → chosen_fragment rules Retur
 chosen_fragment-Return rules = ap (option_map (λ (rule : Rule). rule.fragment)) (find-never (fits Return) (λ rule. refl) rules)
 
 -- one more instruction, of which an operation is known
-pub AreChosen-more : (consts : List Const) (rules : List Rule) (instrs : List Instr) (i : ℕ) (d : Instr) (chosen : List (Option Fragment)) (choice : Option Fragment)
+pub AreChosen-more : (consts : List Place) (rules : List Rule) (instrs : List Instr) (i : ℕ) (d : Instr) (chosen : List (Option Fragment)) (choice : Option Fragment)
     → AreChosen consts rules (take i instrs) chosen → i < length instrs
     → (operation : Operation) → Resolves consts (get_or instrs i d) operation → choice ≡ chosen_fragment rules operation
     → AreChosen consts rules (take (i + 1) instrs) (chosen ++ choice ∷ [])

@@ -6,10 +6,12 @@ use Rattle.std.specs.Option.{option_map}
 use Rattle.std.proofs.lemmas.List.{append-nil, length-map}
 use Rattle.std.proofs.lemmas.Slice.Zip.{AllZip-long}
 use Rattle.std.proofs.lemmas.Option.{slice_get_past}
-use Rattle.je_class.specs.declared.constant.Const.{Const}
+use Rattle.je_consts.specs.declared.constant.Const.{Const}
+use Rattle.je_consts.specs.declared.place.Place.{Place}
+use Rattle.je_consts.specs.Pool.{entry_of, const_at, text_at}
 use Rattle.je_class.specs.declared.member.Attribute.{Attribute}
 use Rattle.je_class.specs.declared.member.Member.{Member}
-use Rattle.je_class.specs.Class.{Class, IsNamed, text_at, changed_at, with_bytes, with_attribute, with_method_attribute}
+use Rattle.je_class.specs.Class.{Class, IsNamed, changed_at, with_bytes, with_attribute, with_method_attribute}
 use Rattle.je_instr.specs.declared.code.MethodCode.{MethodCode}
 use Rattle.je_instr.specs.declared.instr.Instr.{Instr}
 use Rattle.je_instr.specs.declared.instr.Instr.TheVariants as instr
@@ -18,7 +20,7 @@ use Rattle.je_instr.specs.Operation.{Operation, Program}
 use Rattle.je_instr.specs.Code.{CodeBytes}
 use Rattle.je_instr.specs.Plain.{plain_code}
 use Rattle.je_instr.specs.Spelling.{code_bytes, instr_bytes, FitsInstr}
-use Rattle.je_instr.specs.ProgramOf.{Resolves, ProgramOf}
+use Rattle.je_instr.specs.Resolves.{Resolves}
 use Rattle.je_session.specs.declared.plan.Fragment.{Fragment}
 use Rattle.je_session.specs.declared.plan.Fragment.TheVariants.{Empty, Proceed}
 use Rattle.je_session.specs.declared.plan.MethodPlan.{MethodPlan}
@@ -28,20 +30,15 @@ use Rattle.je_session.specs.Edit.{PlanAgrees, CountsMatched}
 use Rattle.je_session.specs.Editable.{IsEditable}
 use Rattle.je_session.specs.KeepsLines.{KeepsLines}
 use Rattle.je_session.specs.Kept.{IsPlanOf, IsPlanned, KeepsConsts, KeepsAttribute, HasTables, KeepsMethod, Kept, MethodForm}
+use Rattle.je_session.specs.ProgramOf.{ProgramOf}
 use Rattle.je_session.specs.Splice.{new_instrs, chosen_fragment}
 use Rattle.je_session.proofs.Choices.{chosen_fragment-Return}
 use Rattle.je_session.proofs.Forms.{EndsByReturn-resolved, IsCodeAt-one}
 use Rattle.je_session.proofs.IndexMap.{new_index, index_map}
 use Rattle.je_session.proofs.Places.{same_or_other, slice_get-changed_at, slice_get-changed_at_other, length-changed_at, one_place}
+use Rattle.je_session.proofs.Programs.{OneProgram, some_one}
 use Rattle.je_session.proofs.Simulation.{Laws, agrees}
 use Rattle.je_session.proofs.Spliced.{new_instrs-unchosen, AllZip-new_instrs, AllByRecursion-new_instrs, length-code_bytes-new_instrs, count_by-cons}
-
--- a method has at most one program
-abbrev pub OneProgram : Type 0
-OneProgram = (c : Class) (m : Member) (p q : Program) → ProgramOf c m p → ProgramOf c m q → p ≡ q
-
-some_one : {A : Type 0} (o : Option A) (x y : A) → o ≡ Some x → o ≡ Some y → y ≡ x
-some_one o x y e f = cc
 
 -- ---- counting
 
@@ -67,7 +64,7 @@ first_stays (Some Empty) chosen i instrs rest = rest
 first_stays (Some Proceed) chosen i instrs rest = omega (arith, rest, length-append (instr_bytes i) (code_bytes (new_instrs chosen instrs)))
 
 -- the return at the end is not chosen
-return_stays : (consts : List Const) (rules : List Rule) (front : List Instr) (operations : List Operation)
+return_stays : (consts : List Place) (rules : List Rule) (front : List Instr) (operations : List Operation)
     → AllZip (Resolves consts) (front ++ instr.Return ∷ []) operations
     → 0 < length (code_bytes (new_instrs (map (chosen_fragment rules) operations) (front ++ instr.Return ∷ [])))
 return_stays consts rules [] [] all = absurd all
@@ -82,15 +79,20 @@ return_stays consts rules (i ∷ front) (o ∷ operations) all =
 KeepsConsts-same : (old new : Class) (plans : List MethodPlan) → new.consts ≡ old.consts → KeepsConsts old plans new
 KeepsConsts-same old new plans same = record {
   added = ([], same ∙ sym (append-nil old.consts));
-  needed = λ k past within. absurd (omega (arith, ap length same));
-  new_content = λ k j content past here there. absurd (none k past (subst (λ l. content_at l k ≡ Some content) same here));
+  needed = λ k c past here. absurd (no_entry k past (subst (λ l. const_at l k ≡ Some c) same here));
+  new_content = λ k j content past here there. absurd (no_content k past (subst (λ l. content_at l k ≡ Some content) same here));
 }
   where
-    none : (k : ℕ) → length old.consts < k → {content : Content} → content_at old.consts k ≡ Some content → ⊥
-    none zero past here = absurd (omega arith)
-    none (suc i) past here =
-        let missing = slice_get_past old.consts i (omega arith) in
-        let nothing : content_at old.consts (suc i) ≡ None = ap (option_and_then (content_of old.consts)) missing in
+    none : (k : ℕ) → length old.consts < k → const_at old.consts k ≡ None
+    none zero past = absurd (omega arith)
+    none (suc i) past = ap (option_and_then entry_of) (slice_get_past old.consts i (omega arith))
+
+    no_entry : (k : ℕ) → length old.consts < k → {c : Const} → const_at old.consts k ≡ Some c → ⊥
+    no_entry k past here = let missing = none k past in absurd cc
+
+    no_content : (k : ℕ) → length old.consts < k → {content : Content} → content_at old.consts k ≡ Some content → ⊥
+    no_content k past here =
+        let nothing : content_at old.consts k ≡ None = ap (option_and_then (content_of old.consts)) (none k past) in
         absurd cc
 
 module _ (c : Class) (plan : MethodPlan) (at : ℕ) (code : MethodCode) (chosen : List (Option Fragment)) (e : IsEditable c plan at code chosen) where

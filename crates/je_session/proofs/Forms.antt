@@ -3,7 +3,7 @@ use Rattle.std.proofs.Common.{◌≡◌, ◌≢◌, ℕ, List, [], ◌∷◌, �
 use Rattle.std.specs.Prelude.{slice_get, codes}
 use Rattle.std.specs.List.{AllByRecursion, AllZip}
 use Rattle.std.proofs.lemmas.Option.{slice_get_within, slice_get_read, get_or_from_slice_get}
-use Rattle.je_class.specs.declared.constant.Const.{Const}
+use Rattle.je_consts.specs.declared.place.Place.{Place}
 use Rattle.je_class.specs.declared.member.Attribute.{Attribute}
 use Rattle.je_class.specs.declared.member.Member.{Member}
 use Rattle.je_class.specs.Class.{Class, IsNamed, IsMethodAt}
@@ -14,19 +14,20 @@ use Rattle.je_instr.specs.Operation.{Operation, Return}
 use Rattle.je_instr.specs.Code.{Code, CodeBytes}
 use Rattle.je_instr.specs.Plain.{plain_code}
 use Rattle.je_instr.specs.Spelling.{code_bytes}
-use Rattle.je_instr.specs.ProgramOf.{IsCode, IsCodeAt, Resolves}
+use Rattle.je_instr.specs.Resolves.{Resolves}
 use Rattle.je_session.specs.Editable.{IsCodeOf, IsReturning}
 use Rattle.je_session.specs.Kept.{MethodForm}
+use Rattle.je_session.specs.ProgramOf.{IsCode, IsCodeAt}
 use Rattle.je_session.proofs.Places.{one_element, one_place, some_from_some_and}
 
 -- what does not return resolves to what does not
-Resolves-no_return : (consts : List Const) (i : Instr) (operation : Operation) → Resolves consts i operation → i ≢ instr.Return → operation ≢ Return
+Resolves-no_return : (consts : List Place) (i : Instr) (operation : Operation) → Resolves consts i operation → i ≢ instr.Return → operation ≢ Return
 Resolves-no_return consts instr.Nop operation resolves other = λ e. absurd cc
 Resolves-no_return consts instr.Return operation resolves other = absurd (other refl)
 Resolves-no_return consts (instr.InvokeStatic index) operation (class, name, descriptor, content, callable, is) other = λ e. absurd cc
 
 -- what resolves to a return returns
-Resolves-return : (consts : List Const) (i : Instr) (operation : Operation) → Resolves consts i operation → operation ≡ Return → i ≡ instr.Return
+Resolves-return : (consts : List Place) (i : Instr) (operation : Operation) → Resolves consts i operation → operation ≡ Return → i ≡ instr.Return
 Resolves-return consts instr.Nop operation resolves e = absurd cc
 Resolves-return consts instr.Return operation resolves e = refl
 Resolves-return consts (instr.InvokeStatic index) operation (class, name, descriptor, content, callable, is) e = absurd cc
@@ -37,7 +38,7 @@ pub record EndsByReturn (operations : List Operation) : Type 0 where
   pub last : operations ≡ front ++ Return ∷ []
   pub no_return : AllByRecursion (λ operation. operation ≢ Return) front
 
-pub EndsByReturn-resolved : (consts : List Const) (front : List Instr) (operations : List Operation) → AllByRecursion (λ i. i ≢ instr.Return) front
+pub EndsByReturn-resolved : (consts : List Place) (front : List Instr) (operations : List Operation) → AllByRecursion (λ i. i ≢ instr.Return) front
     → AllZip (Resolves consts) (front ++ instr.Return ∷ []) operations → EndsByReturn operations
 EndsByReturn-resolved consts [] [] no_return all = absurd all
 EndsByReturn-resolved consts [] (o ∷ []) no_return all = record { front = []; last = ap (λ x. x ∷ []) all.0; no_return = tt }
@@ -51,7 +52,7 @@ EndsByReturn-resolved consts (i ∷ front) (o ∷ operations) no_return all =
       no_return = (Resolves-no_return consts i o all.0 no_return.0, rest.no_return);
     }
 
-pub IsReturning-resolved : (consts : List Const) (instrs : List Instr) (front : List Operation) → AllByRecursion (λ operation. operation ≢ Return) front
+pub IsReturning-resolved : (consts : List Place) (instrs : List Instr) (front : List Operation) → AllByRecursion (λ operation. operation ≢ Return) front
     → AllZip (Resolves consts) instrs (front ++ Return ∷ []) → IsReturning instrs
 IsReturning-resolved consts [] [] no_return all = absurd all
 IsReturning-resolved consts [] (o ∷ front) no_return all = absurd all
@@ -66,7 +67,7 @@ IsReturning-resolved consts (i ∷ instrs) (o ∷ front) no_return all =
     }
 
 -- a list of one Code
-pub IsCodeAt-one : (consts : List Const) (attributes : List Attribute) (a : Attribute) → attributes ≡ a ∷ [] → IsCode consts a → IsCodeAt consts attributes 0 a
+pub IsCodeAt-one : (consts : List Place) (attributes : List Attribute) (a : Attribute) → attributes ≡ a ∷ [] → IsCode consts a → IsCodeAt consts attributes 0 a
 IsCodeAt-one consts attributes a one is_code = record {
   here = ap (λ l. slice_get l 0) one;
   is_code = is_code;
@@ -102,13 +103,13 @@ method_of_form c name f at m is read =
     sym (get_or_from_slice_get c.methods at f.method m here) ∙ sym read
 
 -- so its code is read there
-pub IsCodeOf-there : (c : Class) (name : List ℕ) (f : MethodForm c name) (at : ℕ) (m : Member) (consts : List Const) (methods : List Member)
+pub IsCodeOf-there : (c : Class) (name : List ℕ) (f : MethodForm c name) (at : ℕ) (m : Member) (consts : List Place) (methods : List Member)
     → IsMethodAt c name (codes "()V") at → consts ≡ c.consts → methods ≡ c.methods → m ≡ get_or methods at m → IsCodeOf consts m (code_of_form c name f)
 IsCodeOf-there c name f at m consts methods is consts_are methods_are read =
     let read' : m ≡ get_or c.methods at m = read ∙ ap (λ ms. get_or ms at m) methods_are in
     rw (consts_are, ← method_of_form c name f at m is read') (IsCodeOf-form c name f)
 
-pub Resolves-there : (c : Class) (name : List ℕ) (f : MethodForm c name) (consts : List Const) (instrs : List Instr) → consts ≡ c.consts → instrs ≡ f.of.instrs
+pub Resolves-there : (c : Class) (name : List ℕ) (f : MethodForm c name) (consts : List Place) (instrs : List Instr) → consts ≡ c.consts → instrs ≡ f.of.instrs
     → AllZip (Resolves consts) instrs f.program.operations
 Resolves-there c name f consts instrs consts_are instrs_are = rw (consts_are, instrs_are) f.of.resolved
 

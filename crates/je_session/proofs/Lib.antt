@@ -3,6 +3,7 @@ pub mod TokenLemmas
 pub mod NameLemmas
 pub mod ScriptLemmas
 pub mod Choices
+pub mod Programs
 pub mod Edited
 pub mod Forms
 pub mod Places
@@ -10,5 +11,6 @@ pub mod Simulation
 pub mod Spliced
 pub mod Reserved
 pub mod Causes
+pub mod ClassStops
 pub mod IndexMap
 pub mod Outputs

@@ -76,7 +76,7 @@ pub report_done : {files_fault out_fault err_fault : Type 0} (words : List (List
     → IsPrepared words old.contents made → Goes (output made) None old new → ReportText words files_fault out_fault err_fault status.Done old new err err
 report_done words old new err made p goes = record {
   outcome = Came p.e p.matched None;
-  happens = (p.read, p.counts, tt);
+  happens = (p.line, p.read, p.counts, tt);
   answers = refl;
   output = subst (λ (steps : List Step). Goes steps None old new) (output-edit words old.contents made p) goes;
   tells = refl;
@@ -88,7 +88,7 @@ pub report_failed : {files_fault out_fault err_fault : Type 0} (words : List (Li
     → ReportText words files_fault out_fault err_fault answer old new err_old err_new
 report_failed words answer old new err_old err_new made step line p goes fault is line_is front whole = record {
   outcome = Came p.e p.matched (Some step);
-  happens = (p.read, p.counts, fault);
+  happens = (p.line, p.read, p.counts, fault);
   answers = is;
   output = subst (λ (steps : List Step). Goes steps (Some step) old new) (output-edit words old.contents made p) goes;
   tells = (subst (λ (l : List ℕ). PutFails l err_old err_new) line_is front, λ none. whole none ∙ ap (λ (l : List ℕ). put l err_old) line_is);

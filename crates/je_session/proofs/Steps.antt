@@ -44,10 +44,12 @@ both_read words (Some files) bytes script source edited written reads holds form
     record { script = reads; class = record { bytes = bytes; found = holds; is_class = form } }
 
 pub prepared : (words : List (List ℕ)) (files : Option Contents) (bytes : List ℕ) (script : Script) (source edited : Class) (matched : ℕ) (made : Made)
+    → ((path : List ℕ) × IsLine words path)
     → IfSome files (λ before. ReadsScript words before script) → Holds files (class_path script.class_name) bytes
     → ClassForm script bytes source → IsEdited source script.plan edited → CountsMatched source script.plan matched
     → ClassBytes made.bytes.items edited → HasLines script matched made → IsPrepared words files made
-prepared words files bytes script source edited matched made reads holds form is_edited counts spelled lines = record {
+prepared words files bytes script source edited matched made line reads holds form is_edited counts spelled lines = record {
+  line = line;
   e = record { script = script; source = source; bytes = made.bytes.items; edited = edited };
   matched = matched;
   read = both_read words files bytes script source edited made.bytes.items reads holds form;

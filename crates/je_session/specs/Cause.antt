@@ -1,16 +1,21 @@
 -- Why a run stopped before its output, the status that tells it, and the line.
-use Rattle.std.specs.Prelude.{◌≡◌, ℕ, List, [], ◌∷◌, ◌++◌, codes, Option, Some, None, IfSome, string_bytes, ◌⊎◌}
+use Rattle.std.specs.Prelude.{◌≡◌, ◌≢◌, ℕ, List, [], ◌∷◌, ◌++◌, codes, Option, Some, None, IfSome, string_bytes, ◌⊎◌}
 use Rattle.std.specs.FinMap.{get}
 use Rattle.je_base.specs.Files.{Contents}
 use Rattle.je_base.specs.Shown.{shown}
+use Rattle.je_consts.specs.Pool.{class_at}
+use Rattle.je_class.specs.declared.fault.ClassFault.{ClassFault}
 use Rattle.je_class.specs.Class.{Class}
+use Rattle.je_class.specs.Faults.{FirstFault}
+use Rattle.je_class.specs.Words.{fault_words}
 use Rattle.je_session.specs.declared.plan.Script.{Script}
 use Rattle.je_session.specs.declared.report.Line.{Line}
 use Rattle.je_session.specs.declared.report.Line.TheVariants.{Fixed, Made}
 use Rattle.je_session.specs.declared.report.Stop.{Stop}
 use Rattle.je_session.specs.declared.status.Status.{Status}
 use Rattle.je_session.specs.declared.status.Status.TheVariants as status
-use Rattle.je_session.specs.Forms.{IsLine, IsScript, ClassForm, ReadsScript, ReadsClass, class_path}
+use Rattle.je_session.specs.Forms.{IsLine, IsScript, IsClassFile, ReadsScript, ReadsClass, class_path}
+use Rattle.je_session.specs.Kept.{MethodForm}
 
 -- ---- causes
 
@@ -19,6 +24,10 @@ pub data Refusal : Type 0 where
   NoScript : (path : List ℕ) → Refusal
   NotYetScript : Refusal
   NoClass : (name : List ℕ) → Refusal
+  -- the class's file is no class file
+  BadClass : (name : List ℕ) (fault : ClassFault) → Refusal
+  -- it is one, but of the class `found`
+  WrongName : (name found : List ℕ) → Refusal
   NotYetClass : Refusal
 
 pub data Cause : Type 0 where
@@ -27,6 +36,23 @@ pub data Cause : Type 0 where
   ReadingFailed : (path : List ℕ) → Cause
   NoMemory : Cause
 
+-- the refusal is that of the bytes of a script's class
+abbrev pub IsClassRefusal : Script → List ℕ → Refusal → Type 0
+IsClassRefusal script bytes (BadClass name fault) = (script.class_name ≡ name) × FirstFault bytes fault
+IsClassRefusal script bytes (WrongName name found) =
+    (script.class_name ≡ name) × (found ≢ name)
+    × (source : Class) × IsClassFile bytes source × (class_at source.consts source.this_class ≡ Some found)
+IsClassRefusal script bytes NotYetClass =
+    (source : Class) × IsClassFile bytes source × (class_at source.consts source.this_class ≡ Some script.class_name)
+    × ((source.major ≢ 49) ⊎ (MethodForm source script.plan.name → ⊥))
+IsClassRefusal script bytes _ = ⊥
+
+-- the script is read, and the refusal is that of the bytes at its class's place
+abbrev pub RefusesClass : List (List ℕ) → Contents → Refusal → Type 0
+RefusesClass words files refusal =
+    (script : Script) × (bytes : List ℕ) × ReadsScript words files script × (get files (class_path script.class_name) ≡ Some bytes)
+    × IsClassRefusal script bytes refusal
+
 -- the refusal is that of these words and files
 abbrev pub IsRefusal : List (List ℕ) → Contents → Refusal → Type 0
 IsRefusal words files (NoScript path) = IsLine words path × (get files path ≡ None)
@@ -34,9 +60,9 @@ IsRefusal words files NotYetScript =
     (path : List ℕ) × (text : List ℕ) × IsLine words path × (get files path ≡ Some text) × ((script : Script) → IsScript text script → ⊥)
 IsRefusal words files (NoClass name) =
     (script : Script) × ReadsScript words files script × (script.class_name ≡ name) × (get files (class_path name) ≡ None)
-IsRefusal words files NotYetClass =
-    (script : Script) × (bytes : List ℕ) × ReadsScript words files script × (get files (class_path script.class_name) ≡ Some bytes)
-    × ((source : Class) → ClassForm script bytes source → ⊥)
+IsRefusal words files (BadClass name fault) = RefusesClass words files (BadClass name fault)
+IsRefusal words files (WrongName name found) = RefusesClass words files (WrongName name found)
+IsRefusal words files NotYetClass = RefusesClass words files NotYetClass
 
 -- where a run reads: the path of the script, or of its class
 abbrev pub IsReadPath : List (List ℕ) → Option Contents → List ℕ → Type 0
@@ -66,6 +92,8 @@ abbrev pub refusal_line : Refusal → List ℕ
 refusal_line (NoScript path) = codes "no script " ++ (path ++ line_feed)
 refusal_line NotYetScript = codes "not yet script" ++ line_feed
 refusal_line (NoClass name) = codes "no class " ++ (shown name ++ line_feed)
+refusal_line (BadClass name fault) = codes "bad class " ++ (shown name ++ (codes " " ++ (fault_words fault ++ line_feed)))
+refusal_line (WrongName name found) = codes "wrong name " ++ (shown name ++ (codes " found " ++ (shown found ++ line_feed)))
 refusal_line NotYetClass = codes "not yet class" ++ line_feed
 
 -- the line of a run that stopped
@@ -112,12 +140,17 @@ Tells cause stop = TellsCause cause stop ⊎ TellsCause NoMemory stop
 abbrev pub Stopped : List (List ℕ) → Option Contents → Type 0 → Stop → Type 0
 Stopped words files files_fault stop = (cause : Cause) × Explains words files files_fault cause × TellsCause cause stop
 
+-- a stop at the bytes of a script's class: for want of memory, or with a refusal of them
+abbrev pub StoppedAtBytes : Script → List ℕ → Stop → Type 0
+StoppedAtBytes script bytes stop =
+    TellsCause NoMemory stop ⊎ ((refusal : Refusal) × IsClassRefusal script bytes refusal × Tells (Refuses refusal) stop)
+
 -- what the cause of a stop at the class of a script says
 abbrev pub ExplainsAtClass : Script → Option Contents → Type 0 → Cause → Type 0
 ExplainsAtClass script files files_fault (Refuses (NoClass name)) =
     (script.class_name ≡ name) × IfSome files (λ before. get before (class_path name) ≡ None)
-ExplainsAtClass script files files_fault (Refuses NotYetClass) =
-    IfSome files (λ before. (bytes : List ℕ) × (get before (class_path script.class_name) ≡ Some bytes) × ((source : Class) → ClassForm script bytes source → ⊥))
+ExplainsAtClass script files files_fault (Refuses (BadClass name fault)) =
+    IfSome files (λ before. (bytes : List ℕ) × (get before (class_path script.class_name) ≡ Some bytes) × IsClassRefusal script bytes (BadClass name fault))
 ExplainsAtClass script files files_fault (ReadingFailed path) = files_fault × (path ≡ class_path script.class_name)
 ExplainsAtClass script files files_fault NoMemory = Unit {0}
 ExplainsAtClass script files files_fault _ = ⊥

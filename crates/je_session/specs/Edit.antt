@@ -6,11 +6,11 @@ use Rattle.je_class.specs.declared.member.Member.{Member}
 use Rattle.je_class.specs.Class.{Class}
 use Rattle.je_class.specs.ClassBytes.{ClassBytes}
 use Rattle.je_instr.specs.Operation.{Program}
-use Rattle.je_instr.specs.ProgramOf.{ProgramOf}
 use Rattle.je_session.specs.declared.plan.MethodPlan.{MethodPlan}
 use Rattle.je_session.specs.declared.plan.Script.{Script}
 use Rattle.je_session.specs.Forms.{ReadsScript, ReadsClass, out_path}
 use Rattle.je_session.specs.Agrees.{Agrees}
+use Rattle.je_session.specs.ProgramOf.{ProgramOf}
 use Rattle.je_session.specs.Chosen.{matched}
 use Rattle.je_session.specs.Kept.{Kept, IsPlanOf}
 

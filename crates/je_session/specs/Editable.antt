@@ -1,7 +1,7 @@
 -- The methods whose code can be edited so far, by their instructions.
 use Rattle.std.specs.Prelude.{◌≡◌, ◌≢◌, ℕ, List, [], ◌∷◌, ◌++◌, Option, Some, slice_get, codes, IsBitSet}
 use Rattle.std.specs.List.{AllByRecursion}
-use Rattle.je_class.specs.declared.constant.Const.{Const}
+use Rattle.je_consts.specs.declared.place.Place.{Place}
 use Rattle.je_class.specs.declared.member.Attribute.{Attribute}
 use Rattle.je_class.specs.declared.member.Member.{Member}
 use Rattle.je_class.specs.Class.{Class, IsMethodAt}
@@ -10,14 +10,14 @@ use Rattle.je_instr.specs.declared.instr.Instr.{Instr}
 use Rattle.je_instr.specs.declared.instr.Instr.TheVariants as instr
 use Rattle.je_instr.specs.Code.{CodeBytes}
 use Rattle.je_instr.specs.Plain.{plain_code}
-use Rattle.je_instr.specs.ProgramOf.{IsCode}
 use Rattle.je_instr.specs.Spelling.{FitsInstr}
 use Rattle.je_session.specs.declared.plan.Fragment.{Fragment}
 use Rattle.je_session.specs.declared.plan.MethodPlan.{MethodPlan}
+use Rattle.je_session.specs.ProgramOf.{IsCode}
 use Rattle.je_session.specs.Splice.{AreChosen}
 
 -- The method is static and has one attribute, a Code that is this one.
-pub record IsCodeOf (consts : List Const) (m : Member) (code : MethodCode) : Type 0 where
+pub record IsCodeOf (consts : List Place) (m : Member) (code : MethodCode) : Type 0 where
   pub static : IsBitSet m.access 3
   pub attribute : Attribute
   pub attributes : m.attributes ≡ attribute ∷ []

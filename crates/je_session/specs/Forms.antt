@@ -2,7 +2,8 @@
 use Rattle.std.specs.Prelude.{◌≡◌, ◌≢◌, ℕ, ◌<◌, ◌≤◌, List, [], ◌∷◌, ◌++◌, length, take, codes, Option, Some, None}
 use Rattle.std.specs.FinMap.{get}
 use Rattle.je_base.specs.Files.{Contents}
-use Rattle.je_class.specs.Class.{Class, class_at, IsFirstForm}
+use Rattle.je_consts.specs.Pool.{class_at}
+use Rattle.je_class.specs.Class.{Class}
 use Rattle.je_class.specs.ClassBytes.{ClassBytes}
 use Rattle.je_session.specs.declared.plan.Script.{Script}
 use Rattle.je_session.specs.Script.{ScriptForm}
@@ -40,11 +41,16 @@ pub record IsScript (text : List ℕ) (script : Script) : Type 0 where
   pub short : length text ≤ 4194304
   pub form : ScriptForm text script
 
--- A class file of at most 16,777,216 bytes in the form, of the script's class, whose planned method has the form.
+-- a class file of at most 16,777,216 bytes
+pub record IsClassFile (bytes : List ℕ) (source : Class) : Type 0 where
+  pub short : length bytes ≤ 16777216
+  pub bytes_are : ClassBytes bytes source
+
+-- A class file of at most 16,777,216 bytes and of version 49, of the script's class, whose planned method has the form.
 pub record ClassForm (script : Script) (bytes : List ℕ) (source : Class) : Type 0 where
   pub short : length bytes ≤ 16777216
   pub bytes_are : ClassBytes bytes source
-  pub first_form : IsFirstForm source
+  pub version : source.major ≡ 49
   pub name : class_at source.consts source.this_class ≡ Some script.class_name
   pub method : MethodForm source script.plan.name
 

@@ -1,19 +1,21 @@
 -- What an edit of a class leaves as it was.
-use Rattle.std.specs.Prelude.{◌≡◌, ◌≢◌, ℕ, ◌<◌, ◌≤◌, ◌⊎◌, List, [], ◌∷◌, ◌++◌, length, codes, Some, slice_get}
+use Rattle.std.specs.Prelude.{◌≡◌, ◌≢◌, ℕ, ◌<◌, ◌⊎◌, List, [], ◌∷◌, ◌++◌, length, codes, Some, slice_get}
 use Rattle.std.specs.List.{AllByRecursion, AllZip}
-use Rattle.je_class.specs.declared.constant.Const.{Const}
-use Rattle.je_class.specs.declared.constant.Const.TheVariants as const
+use Rattle.je_consts.specs.declared.constant.Const.{Const}
+use Rattle.je_consts.specs.declared.constant.Const.TheVariants as const
+use Rattle.je_consts.specs.declared.place.Place.{Place}
+use Rattle.je_consts.specs.Pool.{const_at}
 use Rattle.je_class.specs.declared.member.Attribute.{Attribute}
 use Rattle.je_class.specs.declared.member.Member.{Member}
-use Rattle.je_class.specs.Class.{Class, const_at, IsMethodAt}
+use Rattle.je_class.specs.Class.{Class, IsMethodAt}
 use Rattle.je_instr.specs.declared.instr.Instr.{Instr}
 use Rattle.je_instr.specs.declared.instr.Instr.TheVariants as instr
 use Rattle.je_instr.specs.Content.{Content, content_at}
 use Rattle.je_instr.specs.Operation.{Operation, Return, Program}
 use Rattle.je_instr.specs.Code.{Code, CodeBytes}
-use Rattle.je_instr.specs.ProgramOf.{IsCode, IsCodeAt, ProgramOf}
 use Rattle.je_session.specs.declared.plan.MethodPlan.{MethodPlan}
 use Rattle.je_session.specs.Chosen.{matched}
+use Rattle.je_session.specs.ProgramOf.{IsCode, IsCodeAt, ProgramOf}
 
 -- the plan is for the method at this place
 abbrev pub IsPlanOf : Class → ℕ → MethodPlan → Type 0
@@ -31,21 +33,27 @@ NamesConst k _ = ⊥
 
 -- the constant names that of this index
 abbrev pub RefersTo : Const → ℕ → Type 0
-RefersTo (const.Utf8 text) k = ⊥
 RefersTo (const.Class name) k = name ≡ k
+RefersTo (const.Str text) k = text ≡ k
+RefersTo (const.Field class member) k = (class ≡ k) ⊎ (member ≡ k)
 RefersTo (const.Method class member) k = (class ≡ k) ⊎ (member ≡ k)
+RefersTo (const.InterfaceMethod class member) k = (class ≡ k) ⊎ (member ≡ k)
 RefersTo (const.NameAndType name descriptor) k = (name ≡ k) ⊎ (descriptor ≡ k)
+RefersTo (const.MethodHandle kind member) k = member ≡ k
+RefersTo (const.MethodType descriptor) k = descriptor ≡ k
+RefersTo (const.InvokeDynamic bootstrap member) k = member ≡ k
+RefersTo _ k = ⊥
 
 -- The instructions name the constant, or name one behind the first `before` that leads to it through such ones.
-pub data IsNeeded (consts : List Const) (before : ℕ) (instrs : List Instr) : ℕ → Type 0 where
+pub data IsNeeded (consts : List Place) (before : ℕ) (instrs : List Instr) : ℕ → Type 0 where
   by_code : (k at : ℕ) (i : Instr) → slice_get instrs at ≡ Some i → NamesConst k i → IsNeeded consts before instrs k
   by_const : (j k : ℕ) (c : Const) → before < j → IsNeeded consts before instrs j → const_at consts j ≡ Some c → RefersTo c k → IsNeeded consts before instrs k
 
--- Constants stay at their indexes. Each one that is added is needed by the code of a planned method, and says what no
+-- Constants stay at their indexes. Each entry that is added is needed by the code of a planned method, and says what no
 -- other says.
 pub record KeepsConsts (old : Class) (plans : List MethodPlan) (new : Class) : Type 0 where
-  pub added : (more : List Const) × (new.consts ≡ old.consts ++ more)
-  pub needed : (k : ℕ) → length old.consts < k → k ≤ length new.consts
+  pub added : (more : List Place) × (new.consts ≡ old.consts ++ more)
+  pub needed : (k : ℕ) (c : Const) → length old.consts < k → const_at new.consts k ≡ Some c
       → (at : ℕ) × IsPlanned old plans at
       × (m : Member) × (slice_get new.methods at ≡ Some m)
       × (program : Program) × (p : ProgramOf new m program) × IsNeeded new.consts (length old.consts) p.instrs k
@@ -55,11 +63,11 @@ pub record KeepsConsts (old : Class) (plans : List MethodPlan) (new : Class) : T
 -- ---- methods
 
 -- an attribute is as it was, but for the bytes of a Code
-abbrev pub KeepsAttribute : List Const → Attribute → Attribute → Type 0
+abbrev pub KeepsAttribute : List Place → Attribute → Attribute → Type 0
 KeepsAttribute consts old new = (new ≡ old) ⊎ (IsCode consts old × (new.name ≡ old.name))
 
 -- The Code has the tables of the old one, of which there are none so far. Below version 50 it has no StackMapTable.
-pub record HasTables (consts : List Const) (m : Member) : Type 0 where
+pub record HasTables (consts : List Place) (m : Member) : Type 0 where
   pub at : ℕ
   pub attribute : Attribute
   pub is_code : IsCodeAt consts m.attributes at attribute

@@ -6,6 +6,7 @@ pub mod Means
 pub mod RefRun
 pub mod Wrapped
 pub mod Agrees
+pub mod ProgramOf
 pub mod Kept
 pub mod Forms
 pub mod Edit

@@ -3,7 +3,7 @@ use Rattle.std.specs.Prelude.{◌≡◌, ℕ, List, [], ◌∷◌, Option, IfSom
 use Rattle.je_base.specs.Files.{Contents}
 use Rattle.je_session.specs.declared.made.Made.{Made}
 use Rattle.je_session.specs.declared.plan.Script.{Script}
-use Rattle.je_session.specs.Forms.{out_path}
+use Rattle.je_session.specs.Forms.{IsLine, out_path}
 use Rattle.je_session.specs.Edit.{Edit, IsRead, CountsMatched}
 use Rattle.je_session.specs.Fulfils.{Fulfils}
 use Rattle.je_session.specs.Output.{Step, Put, Write}
@@ -22,6 +22,7 @@ pub record HasLines (script : Script) (matched : ℕ) (made : Made) : Type 0 whe
 
 -- all of it is made, of an edit of what was read
 pub record IsPrepared (words : List (List ℕ)) (files : Option Contents) (made : Made) : Type 0 where
+  pub line : (path : List ℕ) × IsLine words path
   pub e : Edit
   pub matched : ℕ
   pub read : IfSome files (λ before. IsRead words before e)

@@ -6,7 +6,7 @@ use Rattle.je_base.specs.Shown.{shown}
 use Rattle.je_session.specs.declared.plan.Script.{Script}
 use Rattle.je_session.specs.declared.status.Status.{Status}
 use Rattle.je_session.specs.declared.status.Status.TheVariants as status
-use Rattle.je_session.specs.Forms.{out_path}
+use Rattle.je_session.specs.Forms.{IsLine, out_path}
 use Rattle.je_session.specs.Edit.{Edit, IsRead, CountsMatched}
 use Rattle.je_session.specs.Cause.{Cause, Explains, status_of, line_of, line_feed}
 use Rattle.je_session.specs.Output.{Step, Put, Write, Taken, Held, put, PutFails, Goes}
@@ -70,7 +70,7 @@ HasFailed files_fault out_fault (Some (Write path bytes)) = files_fault
 abbrev pub Happens : List (List ℕ) → Option Contents → Type 0 → Type 0 → Outcome → Type 0
 Happens words files files_fault out_fault (Stopped cause) = Explains words files files_fault cause
 Happens words files files_fault out_fault (Came e matched failed) =
-    IfSome files (λ before. IsRead words before e) × CountsMatched e.source e.script.plan matched × HasFailed files_fault out_fault failed
+    ((path : List ℕ) × IsLine words path) × IfSome files (λ before. IsRead words before e) × CountsMatched e.source e.script.plan matched × HasFailed files_fault out_fault failed
 
 -- standard error takes the line in one put, all of it where no fault of it is on record
 abbrev pub IsTold : Option (List ℕ) → Type 0 → Taken → Taken → Type 0

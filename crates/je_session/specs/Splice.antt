@@ -2,10 +2,10 @@
 use Rattle.std.specs.Prelude.{◌≡◌, List, [], ◌∷◌, ◌++◌, Option, Some, None, map}
 use Rattle.std.specs.List.{AllZip}
 use Rattle.std.specs.Option.{option_map}
-use Rattle.je_class.specs.declared.constant.Const.{Const}
+use Rattle.je_consts.specs.declared.place.Place.{Place}
 use Rattle.je_instr.specs.declared.instr.Instr.{Instr}
 use Rattle.je_instr.specs.Operation.{Operation}
-use Rattle.je_instr.specs.ProgramOf.{Resolves}
+use Rattle.je_instr.specs.Resolves.{Resolves}
 use Rattle.je_session.specs.declared.plan.Fragment.{Fragment}
 use Rattle.je_session.specs.declared.plan.Fragment.TheVariants.{Empty, Proceed}
 use Rattle.je_session.specs.declared.plan.Rule.{Rule}
@@ -38,7 +38,7 @@ abbrev pub chosen_fragment : List Rule → Operation → Option Fragment
 chosen_fragment rules operation = option_map (λ rule. rule.fragment) (chosen_rule rules operation)
 
 -- These are the fragments that the rules choose for what the instructions do.
-pub record AreChosen (consts : List Const) (rules : List Rule) (instrs : List Instr) (chosen : List (Option Fragment)) : Type 0 where
+pub record AreChosen (consts : List Place) (rules : List Rule) (instrs : List Instr) (chosen : List (Option Fragment)) : Type 0 where
   pub operations : List Operation
   pub resolved : AllZip (Resolves consts) instrs operations
   pub chosen_is : chosen ≡ map (chosen_fragment rules) operations

@@ -3,11 +3,11 @@
 use Rattle.std.specs.Prelude.{◌≡◌, ℕ, ◌+◌, ◌-◌, ◌^◌, ◌<◌, ◌≤◌, ◌⊎◌, Bool, false, ◌&&◌, nat_eq, nat_lt, List, [], ◌∷◌, ◌++◌, length, take, map, filter, codes}
 use Rattle.std.specs.List.{list_any, position_or_len, range_with_len}
 use Rattle.std.specs.Option.{option_map_or}
-use Rattle.je_class.specs.declared.constant.Const.{Const}
-use Rattle.je_class.specs.declared.member.Attribute.{Attribute}
-use Rattle.je_class.specs.Class.{text_at}
-use Rattle.je_class.specs.Layout.{u2, table, FitsTable}
+use Rattle.je_consts.specs.declared.place.Place.{Place}
+use Rattle.je_consts.specs.Layout.{u2, table}
+use Rattle.je_consts.specs.Pool.{text_at}
 use Rattle.je_instr.specs.declared.instr.Instr.{Instr}
+use Rattle.je_instr.specs.Code.{AttributeInfo, FitsTable}
 use Rattle.je_instr.specs.Spelling.{code_bytes}
 use Rattle.je_instr.specs.Value.{is_same_text}
 
@@ -52,10 +52,10 @@ pub record FitsVar (row : VarRow) : Type 0 where
 
 -- ---- the attributes of a name
 
-abbrev pub is_named : List Const → List ℕ → Attribute → Bool
+abbrev pub is_named : List Place → List ℕ → AttributeInfo → Bool
 is_named consts name attribute = option_map_or (is_same_text name) (text_at consts attribute.name) false
 
-abbrev pub named : List Const → List ℕ → List Attribute → List Attribute
+abbrev pub named : List Place → List ℕ → List AttributeInfo → List AttributeInfo
 named consts name attributes = filter (is_named consts name) attributes
 
 -- the bytes are a count and these rows
@@ -64,17 +64,17 @@ IsTable layout Fits bytes rows = (bytes ≡ table layout rows) × FitsTable Fits
 
 -- The rows that are read from the attributes of a name: those of the first one. One that is no table, or is not there, has
 -- no rows.
-abbrev pub ReadsRows : {A : Type 0} → (A → List ℕ) → (A → Type 0) → List Attribute → List A → Type 0
+abbrev pub ReadsRows : {A : Type 0} → (A → List ℕ) → (A → Type 0) → List AttributeInfo → List A → Type 0
 ReadsRows layout Fits [] rows = rows ≡ []
 ReadsRows {A} layout Fits (attribute ∷ more) rows =
     IsTable layout Fits attribute.bytes rows
     ⊎ (((others : List A) → IsTable layout Fits attribute.bytes others → ⊥) × (rows ≡ []))
 
 -- The attributes of a name are the one that has these rows. Where there are no rows there is none.
-abbrev pub HasRows : {A : Type 0} → (A → List ℕ) → (A → Type 0) → List Attribute → List A → Type 0
+abbrev pub HasRows : {A : Type 0} → (A → List ℕ) → (A → Type 0) → List AttributeInfo → List A → Type 0
 HasRows layout Fits attributes [] = attributes ≡ []
 HasRows layout Fits attributes (row ∷ rows) =
-    (attribute : Attribute) × (attributes ≡ attribute ∷ []) × IsTable layout Fits attribute.bytes (row ∷ rows)
+    (attribute : AttributeInfo) × (attributes ≡ attribute ∷ []) × IsTable layout Fits attribute.bytes (row ∷ rows)
 
 -- ---- offsets and indexes
 
@@ -111,7 +111,7 @@ indexed_vars instrs rows =
 -- ---- the tables of a Code attribute
 
 -- what its tables say, as they are read
-pub record ReadsTables (consts : List Const) (attributes : List Attribute) (instrs : List Instr) (tables : Tables) : Type 0 where
+pub record ReadsTables (consts : List Place) (attributes : List AttributeInfo) (instrs : List Instr) (tables : Tables) : Type 0 where
   pub lines : (rows : List LineRow) × ReadsRows line_layout FitsLine (named consts (codes "LineNumberTable") attributes) rows
       × (tables.lines ≡ indexed_lines instrs rows)
   pub variables : (rows : List VarRow) × ReadsRows var_layout FitsVar (named consts (codes "LocalVariableTable") attributes) rows
@@ -120,7 +120,7 @@ pub record ReadsTables (consts : List Const) (attributes : List Attribute) (inst
       × (tables.types ≡ indexed_vars instrs rows)
 
 -- it has just these tables
-pub record WritesTables (consts : List Const) (attributes : List Attribute) (instrs : List Instr) (tables : Tables) : Type 0 where
+pub record WritesTables (consts : List Place) (attributes : List AttributeInfo) (instrs : List Instr) (tables : Tables) : Type 0 where
   pub lines : HasRows line_layout FitsLine (named consts (codes "LineNumberTable") attributes) (map (line_under (offset_of instrs)) tables.lines)
   pub variables : HasRows var_layout FitsVar (named consts (codes "LocalVariableTable") attributes) (map (var_under (offset_of instrs)) tables.variables)
   pub types : HasRows var_layout FitsVar (named consts (codes "LocalVariableTypeTable") attributes) (map (var_under (offset_of instrs)) tables.types)

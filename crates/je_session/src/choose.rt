@@ -4,7 +4,7 @@ ghost use Rattle.std.specs.Prelude.{◌≡◌, List, Option, Some, codes, count_
 ghost use Rattle.std.specs.List.{AllZip};
 ghost use Rattle.je_instr.specs.Content.{Member, Method};
 ghost use Rattle.je_instr.specs.Operation.{Operation, InvokeStatic};
-ghost use Rattle.je_instr.specs.ProgramOf.{Resolves};
+ghost use Rattle.je_instr.specs.Resolves.{Resolves};
 ghost use Rattle.je_session.specs.declared.stop.EditStop.TheVariants as stops;
 ghost use Rattle.je_session.specs.Chosen.{fits};
 ghost use Rattle.je_session.specs.Splice.{chosen_fragment, AreChosen};
@@ -12,7 +12,7 @@ ghost use Rattle.je_session.specs.Splice.{chosen_fragment, AreChosen};
 use crate::plan::{Fragment, Rule};
 use crate::stop::EditStop;
 use je_base::Text;
-use je_class::Const;
+use je_consts::Consts;
 use je_instr::{Instr, called_method};
 use sqlite_items::Items;
 use std::alloc::Global;
@@ -33,7 +33,7 @@ fn fragment_for(rules: &[Rule], class_name: &Text, member: &Text) -> Option<Frag
 }
 
 /// The fragment that the rules choose for an instruction, and `NotYet` where it calls what may not be called.
-fn choose_one(consts: &[Const], instr: Instr, rules: &[Rule]) -> Result<Option<Fragment>, EditStop>
+fn choose_one(consts: &Consts, instr: Instr, rules: &[Rule]) -> Result<Option<Fragment>, EditStop>
     ensures chosen { IfOk result (λ choice. (operation : Operation)
         × Resolves consts.now instr operation × (choice ≡ chosen_fragment rules.now operation)) }
     ensures not_yet { OnErr result ((operation : Operation) → Resolves consts.now instr operation → ⊥) }
@@ -51,7 +51,7 @@ fn choose_one(consts: &[Const], instr: Instr, rules: &[Rule]) -> Result<Option<F
 /// The fragment that the rules choose for each instruction. `NotYet`: one calls what may not be called.
 pub fn choose(
     alloc: Global,
-    consts: &[Const],
+    consts: &Consts,
     instrs: &[Instr],
     rules: &[Rule],
 ) -> Result<Items<Option<Fragment>>, EditStop>

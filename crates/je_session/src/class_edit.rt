@@ -1,38 +1,44 @@
 //! The edit of a class file, from its bytes.
 
-ghost use Rattle.std.specs.Prelude.{◌≡◌, ◌≤◌, ◌↔◌, length, Some, IsTrue, IfOk, IsErrOf};
-ghost use Rattle.je_class.specs.Class.{Class, class_at};
+ghost use Rattle.std.specs.Prelude.{◌≡◌, ◌↔◌, Some, IsTrue, IfOk, IfErr};
+ghost use Rattle.je_consts.specs.Pool.{class_at};
+ghost use Rattle.je_class.specs.Class.{Class};
+ghost use Rattle.je_session.specs.Cause.{StoppedAtBytes};
 ghost use Rattle.je_session.specs.Forms.{ClassForm};
 ghost use Rattle.je_session.specs.Edit.{CountsMatched};
 ghost use Rattle.je_session.specs.Fulfils.{IsEdited};
 
 use crate::edit::edit_method;
 use crate::plan::Script;
+use crate::report::Stop;
 use crate::stop::EditStop;
 use je_base::Text;
-use je_class::{ClassFile, ReadStop, read_class};
+use je_class::{ClassFault, ClassFile, read_class};
 use std::alloc::Global;
 
+/// The major version of the classes that are edited so far (JVMS 4.1).
+const MAJOR: u16 = 49;
+
 /// The class of the script after the edits of its plan, and how many expressions the rules chose.
-pub fn edit_class(
-    alloc: Global,
-    script: &Script,
-    bytes: &[u8],
-) -> Result<(ClassFile, usize), EditStop>
+pub fn edit_class(alloc: Global, script: &Script, bytes: &[u8]) -> Result<(ClassFile, usize), Stop>
     ensures edited { IfOk result (λ edited. (source : Class) × ClassForm script.now bytes.now source × IsEdited source script.now.plan edited.0 × CountsMatched source script.now.plan edited.1) }
-    ensures not_yet { IsErrOf result EditStop.NotYet → (source : Class) → ClassForm script.now bytes.now source → ⊥ }
+    ensures stopped { IfErr result (StoppedAtBytes script.now bytes.now) }
 {
     let mut class = match read_class(alloc, bytes) {
         Ok(class) => class,
-        Err(ReadStop::NotYet) => return Err(EditStop::NotYet),
-        Err(ReadStop::Memory) => return Err(EditStop::Memory),
+        Err(ClassFault::Memory) => return Err(Stop::memory()),
+        Err(fault) => return Err(Stop::bad_class(alloc, &script.class_name, fault)),
     };
     if !is_named(&class, &script.class_name) {
-        return Err(EditStop::NotYet);
+        return Err(Stop::wrong_name(alloc, &script.class_name, class.this_name()));
+    }
+    if class.major() != MAJOR {
+        return Err(Stop::not_yet_class());
     }
     match edit_method(alloc, &mut class, &script.plan) {
         Ok(matched) => Ok((class, matched)),
-        Err(stop) => Err(stop),
+        Err(EditStop::NotYet) => Err(Stop::not_yet_class()),
+        Err(EditStop::Memory) => Err(Stop::memory()),
     }
 }
 

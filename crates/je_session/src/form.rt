@@ -1,16 +1,19 @@
 //! The methods that can be edited so far.
 
-ghost use Rattle.std.specs.Prelude.{◌≡◌, ◌↔◌, IsTrue, IfOk, IfErr, MatchResult};
+ghost use Rattle.std.specs.Prelude.{◌≡◌, ℕ, ◌↔◌, codes, IsTrue, IfOk, IfErr, IfSome, IfNone, MatchResult};
+ghost use Rattle.je_class.specs.Class.{IsMethodAt};
 ghost use Rattle.je_instr.specs.declared.code.MethodCode.{MethodCode};
-ghost use Rattle.je_instr.specs.ProgramOf.{IsCode};
 ghost use Rattle.je_session.specs.declared.stop.EditStop.TheVariants as stops;
 ghost use Rattle.je_session.specs.Editable.{IsCodeOf, IsReturning, IsEditable};
 ghost use Rattle.je_session.specs.Kept.{MethodForm};
+ghost use Rattle.je_session.specs.ProgramOf.{IsCode};
 
 use crate::choose::choose;
 use crate::plan::{Fragment, MethodPlan};
 use crate::stop::EditStop;
-use je_class::{Attribute, ClassFile, Const, Member, text_at};
+use je_base::{Memory, Text};
+use je_class::{Attribute, ClassFile, Member};
+use je_consts::Consts;
 use je_instr::{Instr, MethodCode, read_code};
 use sqlite_items::Items;
 use std::alloc::Global;
@@ -20,6 +23,9 @@ const ACC_STATIC: u16 = 8;
 
 /// The name of the attribute that has a method's code (JVMS 4.7.3).
 const CODE: &[u8] = b"Code";
+
+/// The descriptor of the methods that can be edited (JVMS 4.3.3).
+const DESCRIPTOR: &str = "()V";
 
 /// A method that can be edited, and what a plan chooses in it.
 #[derive(Drop)]
@@ -31,10 +37,10 @@ pub struct Editable {
     pub chosen: Items<Option<Fragment>>,
 }
 
-fn is_code(consts: &[Const], attribute: &Attribute) -> bool
+fn is_code(consts: &Consts, attribute: &Attribute) -> bool
     ensures { IsTrue result ↔ IsCode consts.now attribute.now }
 {
-    match text_at(consts, attribute.name) {
+    match consts.text(attribute.name) {
         Some(name) => name.bytes() == CODE,
         None => false,
     }
@@ -42,7 +48,7 @@ fn is_code(consts: &[Const], attribute: &Attribute) -> bool
 
 /// The code of a static method with one attribute, a Code without handlers and attributes. `NotYet`: the method is not
 /// of this form.
-fn code_of(alloc: Global, consts: &[Const], method: &Member) -> Result<MethodCode, EditStop>
+fn code_of(alloc: Global, consts: &Consts, method: &Member) -> Result<MethodCode, EditStop>
     ensures found { IfOk result (IsCodeOf consts.now method.now) }
     ensures only { (code : MethodCode) → IsCodeOf consts.now method.now code
         → MatchResult result (λ found. found ≡ code) (λ e. e ≡ stops.Memory) }
@@ -70,6 +76,15 @@ fn is_returning(instrs: &[Instr]) -> bool
     }
 }
 
+/// The place of the first method of this name without parameters and result.
+fn place_of(alloc: Global, class: &ClassFile, name: &Text) -> Result<Option<usize>, Memory>
+    ensures found { IfOk result (λ place. IfSome place (IsMethodAt class.now name.now (codes "()V"))) }
+    ensures none { IfOk result (λ place. IfNone place ((at : ℕ) → IsMethodAt class.now name.now (codes "()V") at → ⊥)) }
+{
+    let descriptor = Text::of(alloc, DESCRIPTOR)?;
+    Ok(class.find_member(name, &descriptor))
+}
+
 /// The method of a plan, and what the plan chooses in it. `NotYet`: the method is not there, or not of the form that
 /// can be edited.
 pub fn find_editable(
@@ -80,7 +95,7 @@ pub fn find_editable(
     ensures found { IfOk result (λ e. IsEditable class.now plan.now e.at e.code e.chosen) }
     ensures not_yet { IfErr result (λ e. e ≡ stops.NotYet → MethodForm class.now plan.now.name → ⊥) }
 {
-    let Some(at) = class.find_method(&plan.name) else {
+    let Some(at) = place_of(alloc, class, &plan.name)? else {
         return Err(EditStop::NotYet);
     };
     let code = code_of(alloc, class.consts(), &class.methods()[at])?;

@@ -16,11 +16,10 @@ use crate::plan::Script;
 use crate::reading::{NotRead, read_within};
 use crate::report::Stop;
 use crate::status::Status;
-use crate::stop::EditStop;
 use crate::tokens::ScriptStop;
 use crate::words::script_path;
 use je_base::Files;
-use je_class::MOST_BYTES;
+use je_class::{ClassFault, MOST_BYTES};
 use std::alloc::Global;
 
 /// Scripts longer than this are not read: bytes.
@@ -30,7 +29,6 @@ const MOST_SCRIPT_BYTES: usize = 4_194_304;
 pub fn prepare<F: Files>(alloc: Global, words: &[String], files: &mut F) -> Result<Made, Stop>
     ensures made { IfOk result (IsPrepared (texts words.now) (F.contents files.old)) }
     ensures stopped { IfErr result (Stopped (texts words.now) (F.contents files.old) (HasFault (F.faults files.old) (F.faults files.new))) }
-    ensures line { OnOk result ((path : List ℕ) × IsLine (texts words.now) path) }
     ensures no_line { IfErr result (λ stop. ((path : List ℕ) → IsLine (texts words.now) path → ⊥) → stop.status ≡ Status.Usage) }
     ensures contents { F.contents files.new ≡ F.contents files.old }
     ensures writes { F.writes files.new ≡ F.writes files.old }
@@ -38,11 +36,8 @@ pub fn prepare<F: Files>(alloc: Global, words: &[String], files: &mut F) -> Resu
 {
     let script = read_script(alloc, words, files)?;
     let bytes = read_class_bytes(alloc, &script, files)?;
-    match edit_class(alloc, &script, &bytes) {
-        Ok((class, matched)) => make(alloc, &script, &class, matched),
-        Err(EditStop::NotYet) => Err(Stop::not_yet_class()),
-        Err(EditStop::Memory) => Err(Stop::memory()),
-    }
+    let (class, matched) = edit_class(alloc, &script, &bytes)?;
+    make(alloc, &script, &class, matched)
 }
 
 // The script that the words name.
@@ -91,7 +86,11 @@ fn read_class_bytes<F: Files>(
     match read_within(files, path.as_str(), MOST_BYTES) {
         Ok(bytes) => Ok(bytes),
         Err(NotRead::Missing) => Err(Stop::no_class(alloc, &script.class_name)),
-        Err(NotRead::TooLong) => Err(Stop::not_yet_class()),
+        Err(NotRead::TooLong) => Err(Stop::bad_class(
+            alloc,
+            &script.class_name,
+            ClassFault::TooLong,
+        )),
         Err(NotRead::Failed) => Err(Stop::reading(alloc, path.as_str())),
         Err(NotRead::Memory) => Err(Stop::memory()),
     }

@@ -1,10 +1,11 @@
 //! Why a run stopped, and the line that tells it.
 
 ghost use Rattle.std.specs.Prelude.{◌≡◌, IfOk, OnErr, string_bytes};
-ghost use Rattle.je_session.specs.Cause.{NoScript, NotYetScript, NoClass, NotYetClass, NoLine, Refuses, ReadingFailed, NoMemory, line_bytes, TellsCause, Tells};
+ghost use Rattle.je_session.specs.Cause.{NoScript, NotYetScript, NoClass, BadClass, WrongName, NotYetClass, NoLine, Refuses, ReadingFailed, NoMemory, line_bytes, refusal_line, TellsCause, Tells};
 
 use crate::status::Status;
 use je_base::{Memory, Text};
+use je_class::ClassFault;
 use std::alloc::{AllocError, Global};
 
 /// The line of a run whose words are not those of a command line.
@@ -75,7 +76,27 @@ impl Stop {
         }
     }
 
-    /// The class is none of a form that is read.
+    /// The file of the class of this name is no class file.
+    pub fn bad_class(alloc: Global, name: &Text, fault: ClassFault) -> Stop
+        ensures { Tells (Refuses (BadClass name.now fault)) result }
+    {
+        match bad_class_line(alloc, name, fault) {
+            Ok(line) => Stop::made(Status::Refused, line),
+            Err(Memory) => Stop::memory(),
+        }
+    }
+
+    /// The file of the class of this name has a class of another name.
+    pub fn wrong_name(alloc: Global, name: &Text, found: &Text) -> Stop
+        ensures { Tells (Refuses (WrongName name.now found.now)) result }
+    {
+        match wrong_name_line(alloc, name, found) {
+            Ok(line) => Stop::made(Status::Refused, line),
+            Err(Memory) => Stop::memory(),
+        }
+    }
+
+    /// The class is none of a form that is edited.
     pub fn not_yet_class() -> Stop
         ensures { TellsCause (Refuses NotYetClass) result }
     {
@@ -111,13 +132,36 @@ impl Stop {
         ensures memory { OnErr line (TellsCause NoMemory result) }
     {
         match line {
-            Ok(line) => Stop {
-                status,
-                line: Line::Made(line),
-            },
+            Ok(line) => Stop::made(status, line),
             Err(_) => Stop::memory(),
         }
     }
+
+    fn made(status: Status, line: String) -> Stop
+        ensures status { result.status ≡ status }
+        ensures line { line_bytes result.line ≡ string_bytes line }
+    {
+        Stop {
+            status,
+            line: Line::Made(line),
+        }
+    }
+}
+
+fn bad_class_line(alloc: Global, name: &Text, fault: ClassFault) -> Result<String, Memory>
+    ensures { IfOk result (λ line. string_bytes line ≡ refusal_line (BadClass name.now fault)) }
+{
+    let name = name.show()?;
+    let words = fault.words(alloc)?;
+    Ok(format!(in alloc; "bad class {name} {words}\n")?)
+}
+
+fn wrong_name_line(alloc: Global, name: &Text, found: &Text) -> Result<String, Memory>
+    ensures { IfOk result (λ line. string_bytes line ≡ refusal_line (WrongName name.now found.now)) }
+{
+    let name = name.show()?;
+    let found = found.show()?;
+    Ok(format!(in alloc; "wrong name {name} found {found}\n")?)
 }
 
 impl From<AllocError> for Stop {

@@ -21,6 +21,7 @@ use crate::prepare::prepare;
 use crate::report::Stop;
 use crate::status::Status;
 use je_base::{Files, Sink};
+use je_class::one_class;
 use std::alloc::Global;
 
 /// Edits a class by a script. `words` are those of the command line after the program's name.
@@ -74,6 +75,9 @@ pub fn run<F: Files, O: Sink, E: Sink>(
     ensures at_most_once { (F.writes files.new ≡ F.writes files.old)
         ⊎ (F.writes files.new ≡ raised (F.writes files.old)) }
 {
+    // The law of the layer below that the proof stands on.
+    one_class();
+
     match prepare(alloc, words, files) {
         Ok(made) => match finish(&made, files, out) {
             Ok(()) => Status::Done,

@@ -170,19 +170,108 @@ fn refusals(rt: HostRuntime) -> Result<(), Fail> {
         Status::Refused,
         b"",
         b"not yet script\n",
-    )?;
-    let mut later = SOURCE;
-    later[7] = 0x34;
-    let mut outside = ample(&rt, SCRIPT)?;
-    outside.files.add("./A.class", &later)?;
-    expect(
-        &rt,
-        &mut outside,
-        &["s.je"],
-        Status::Refused,
-        b"",
-        b"not yet class\n",
     )
+}
+
+#[test]
+fn refused_classes(rt: HostRuntime) -> Result<(), Fail> {
+    let script_b = "class B { method void m() { call A.f { } } }";
+    let other_method = "class A { method void q() { call A.f { } } }";
+    let mut older = SOURCE;
+    older[7] = 0x30;
+    let mut newer = SOURCE;
+    newer[7] = 0x34;
+    let mut no_descriptor = SOURCE;
+    no_descriptor[87] = 0x08;
+    let mut longer = Vec::from_slice(rt.alloc(), &SOURCE)?;
+    longer.push(0)?;
+    // The script, where its class lies, what lies there, and the line that refuses it.
+    for (script, path, class, err) in [
+        (
+            SCRIPT,
+            "./A.class",
+            older.as_slice(),
+            b"bad class A version 48\n".as_slice(),
+        ),
+        (
+            SCRIPT,
+            "./A.class",
+            &SOURCE[..3],
+            b"bad class A truncated 0\n".as_slice(),
+        ),
+        (
+            SCRIPT,
+            "./A.class",
+            no_descriptor.as_slice(),
+            b"bad class A bad descriptor 86\n".as_slice(),
+        ),
+        (
+            SCRIPT,
+            "./A.class",
+            longer.as_slice(),
+            b"bad class A trailing 114\n".as_slice(),
+        ),
+        (
+            script_b,
+            "./B.class",
+            SOURCE.as_slice(),
+            b"wrong name B found A\n".as_slice(),
+        ),
+        (
+            SCRIPT,
+            "./A.class",
+            newer.as_slice(),
+            b"not yet class\n".as_slice(),
+        ),
+        (
+            other_method,
+            "./A.class",
+            SOURCE.as_slice(),
+            b"not yet class\n".as_slice(),
+        ),
+    ] {
+        let mut outside = ample(&rt, script)?;
+        outside.files.add(path, class)?;
+        expect(&rt, &mut outside, &["s.je"], Status::Refused, b"", err)?;
+        assert_eq!(rt; outside.files.writes(), 0);
+    }
+    Ok(())
+}
+
+// The class A with one more constant, an interface, a field and an attribute, and with these methods.
+fn with_members<R: AllocGlobal>(rt: &R, methods: &[u8]) -> Result<Vec<u8>, Fail> {
+    let mut class = Vec::new(rt.alloc());
+    for part in [
+        &SOURCE[..8],
+        [0, 12].as_slice(),
+        &SOURCE[10..70],
+        // the text `I`
+        [1, 0, 1, b'I'].as_slice(),
+        &SOURCE[70..76],
+        // the interface java/lang/Object
+        [0, 1, 0, 4].as_slice(),
+        // the field `int f`
+        [0, 1, 0, 0, 0, 8, 0, 11, 0, 0].as_slice(),
+        methods,
+        // the attribute `f` of one byte
+        [0, 1, 0, 8, 0, 0, 0, 1, 0xff].as_slice(),
+    ] {
+        class.extend_from_slice(part)?;
+    }
+    Ok(class)
+}
+
+#[test]
+fn other_members_stay(rt: HostRuntime) -> Result<(), Fail> {
+    let mut outside = ample(&rt, SCRIPT)?;
+    let class = with_members(&rt, &SOURCE[80..112])?;
+    outside.files.add("./A.class", &class)?;
+    let out = b"edited A.m()V matched 1\nwrote out/A.class\n".as_slice();
+    expect(&rt, &mut outside, &["s.je"], Status::Done, out, b"")?;
+    let written = outside.files.content("out/A.class").ok_or("written")?;
+    let edited = with_members(&rt, &EDITED[80..109])?;
+    assert_eq!(rt; written, edited.as_slice());
+    Ok(())
 }
 
 #[test]

@@ -1,7 +1,7 @@
 use Rattle.std.proofs.Common.{arith}
 use Rattle.std.proofs.lemmas.Result.{err_from_is_err_and}
 use Rattle.je_instr.specs.declared.instr.Instr.TheVariants.{Nop}
-use Rattle.je_instr.specs.ProgramOf.{Resolves}
+use Rattle.je_instr.specs.Resolves.{Resolves}
 use Rattle.je_session.proofs.Choices.{AreChosen-more, AllZip-at}
 use Rattle.je_session.proofs.choose.choose.Goals as goal
 

@@ -1,8 +1,15 @@
+use Rattle.std.proofs.lemmas.Result.{err_from_is_err_and}
+use Rattle.je_session.proofs.ClassStops.{stopped_at_bytes}
 use Rattle.je_session.proofs.Steps.{prepared, if_ok_both}
 use Rattle.je_session.proofs.prepare.prepare.Goals as goal
 
-pub returns-in-Ok-clause-made : goal.returns-in-Ok-clause-made
-returns-in-Ok-clause-made g c =
-    let edited = c.in-Ok.ensures.edited in
+pub returns-in_err-class-clause-stopped : goal.returns-in_err-class-clause-stopped
+returns-in_err-class-clause-stopped g c =
+    let p = err_from_is_err_and c.from_residual-in_err-class.result c.from_residual-in_err-class.ensures.1 in
+    rw (p.1, p.2) (stopped_at_bytes _ _ c.in_ok-script.script c.in_ok-bytes.bytes.items _ c.in_ok-script.ensures.found (rw (← c.read_script.ensures.contents) c.in_ok-bytes.ensures.found) (rw (← c.deref.ensures.value) c.in_err-class.ensures.stopped))
+
+pub returns-clause-made : goal.returns-clause-made
+returns-clause-made g c =
+    let edited = c.in_ok-class.ensures.edited in
     if_ok_both c.make.result c.make.ensures.bytes c.make.ensures.lines (λ made spelled lines.
-    prepared _ _ c.in_ok-bytes.bytes.items c.in_ok-script.script edited.0 c.in-Ok.class c.in-Ok.matched made c.in_ok-script.ensures.found (rw (← c.read_script.ensures.contents) c.in_ok-bytes.ensures.found) (rw (← c.deref.ensures.value) edited.1) edited.2 edited.3 spelled lines)
+    prepared _ _ c.in_ok-bytes.bytes.items c.in_ok-script.script edited.0 c.in_ok-class.class c.in_ok-class.matched made c.in_ok-script.ensures.line c.in_ok-script.ensures.found (rw (← c.read_script.ensures.contents) c.in_ok-bytes.ensures.found) (rw (← c.deref.ensures.value) edited.1) edited.2 edited.3 spelled lines)

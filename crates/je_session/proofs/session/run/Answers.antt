@@ -1,6 +1,6 @@
 use Rattle.std.proofs.Common.{Err, Some, None, refl, ap, ◌∙◌}
 use Rattle.je_session.specs.Output.{Put, Write}
-use Rattle.je_session.proofs.Causes.{complete_from, refuses_from, loud, not_done}
+use Rattle.je_session.proofs.Causes.{laws_of, complete_from, refuses_from, loud, not_done}
 use Rattle.je_session.proofs.Outputs.{since_start, all_done, put_failed, write_failed, writes_once, report_done, report_failed, report_stopped}
 use Rattle.je_session.proofs.Steps.{written, only_written, only_reads_back, only_agree, only_lines, fault_since, stands_open, stands_put}
 use Rattle.je_session.proofs.session.run.Goals as goal
@@ -29,7 +29,7 @@ returns-in-Ok-finish-clause-report g c =
 
 pub returns-in-Ok-finish-clause-refused : goal.returns-in-Ok-finish-clause-refused
 returns-in-Ok-finish-clause-refused g c =
-    refuses_from _ _ _ _ _ _ _ _ (returns-in-Ok-finish-clause-report g c) (returns-in-Ok-finish-clause-written g c)
+    refuses_from (laws_of c.one_class.ensures.same c.one_class.ensures.no_fault) _ _ _ _ _ _ _ _ (returns-in-Ok-finish-clause-report g c) (returns-in-Ok-finish-clause-written g c)
 
 -- ---- the write failed
 
@@ -51,10 +51,10 @@ returns-in-Err-Writing-clause-at_most_once g c =
 
 pub returns-in-Err-Writing-clause-refused : goal.returns-in-Err-Writing-clause-refused
 returns-in-Err-Writing-clause-refused g c =
-    refuses_from _ _ None _ _ _ _ _ (returns-in-Err-Writing-clause-report g c) (λ done. absurd (not_done _ c.tell.ensures.status done))
+    refuses_from (laws_of c.one_class.ensures.same c.one_class.ensures.no_fault) _ _ None _ _ _ _ _ (returns-in-Err-Writing-clause-report g c) (λ done. absurd (not_done _ c.tell.ensures.status done))
 
 pub returns-in-Err-Writing-clause-complete : goal.returns-in-Err-Writing-clause-complete
-returns-in-Err-Writing-clause-complete g c = complete_from _ _ _ _ _ _ _ refl (returns-in-Err-Writing-clause-report g c)
+returns-in-Err-Writing-clause-complete g c = complete_from (laws_of c.one_class.ensures.same c.one_class.ensures.no_fault) _ _ _ _ _ _ _ refl (returns-in-Err-Writing-clause-report g c)
 
 pub returns-in-Err-Writing-clause-unwritten : goal.returns-in-Err-Writing-clause-unwritten
 returns-in-Err-Writing-clause-unwritten g c = λ quiet. absurd (loud _ c.tell.ensures.status quiet)
@@ -87,10 +87,10 @@ returns-in-Ok-clause-at_most_once g c =
 
 pub returns-in-Ok-clause-refused : goal.returns-in-Ok-clause-refused
 returns-in-Ok-clause-refused g c =
-    refuses_from _ _ None _ _ _ _ _ (returns-in-Ok-clause-report g c) (λ done. absurd (not_done _ c.tell-in-Err-Output.ensures.status done))
+    refuses_from (laws_of c.one_class.ensures.same c.one_class.ensures.no_fault) _ _ None _ _ _ _ _ (returns-in-Ok-clause-report g c) (λ done. absurd (not_done _ c.tell-in-Err-Output.ensures.status done))
 
 pub returns-in-Ok-clause-complete : goal.returns-in-Ok-clause-complete
-returns-in-Ok-clause-complete g c = complete_from _ _ _ _ _ _ _ refl (returns-in-Ok-clause-report g c)
+returns-in-Ok-clause-complete g c = complete_from (laws_of c.one_class.ensures.same c.one_class.ensures.no_fault) _ _ _ _ _ _ _ refl (returns-in-Ok-clause-report g c)
 
 pub returns-in-Ok-clause-unwritten : goal.returns-in-Ok-clause-unwritten
 returns-in-Ok-clause-unwritten g c = λ quiet. absurd (loud _ c.tell-in-Err-Output.ensures.status quiet)
@@ -108,4 +108,4 @@ returns-clause-report g c =
     report_stopped _ _ _ _ _ _ c.in-Err.stop _ c.in-Err.ensures.stopped (rw (c.prepare.ensures.contents, c.prepare.ensures.writes) refl) c.tell-in-Err.ensures.status c.bytes.ensures c.tell-in-Err.ensures.put c.tell-in-Err.ensures.whole
 
 pub returns-clause-complete : goal.returns-clause-complete
-returns-clause-complete g c = complete_from _ _ _ _ _ _ _ refl (returns-clause-report g c)
+returns-clause-complete g c = complete_from (laws_of c.one_class.ensures.same c.one_class.ensures.no_fault) _ _ _ _ _ _ _ refl (returns-clause-report g c)
