@@ -19,20 +19,20 @@ use Rattle.je_session.specs.Output.{Put, Write, Taken, Held}
 use Rattle.je_session.specs.ReportText.{ReportText, Outcome, Stopped, Came, Happens, answer_of}
 use Rattle.je_session.proofs.ScriptLemmas.{one_script}
 
-one_path : (words : List (List ℕ)) (a b : List ℕ) → IsLine words a → IsLine words b → a ≡ b
+pub one_path : (words : List (List ℕ)) (a b : List ℕ) → IsLine words a → IsLine words b → a ≡ b
 one_path words a b f g = let e = f.0 in let d = g.0 in cc
 
-one_found : (files : Contents) (path a b : List ℕ) → get files path ≡ Some a → get files path ≡ Some b → a ≡ b
+pub one_found : (files : Contents) (path a b : List ℕ) → get files path ≡ Some a → get files path ≡ Some b → a ≡ b
 one_found files path a b f g = cc
 
-never_both : (files : Contents) (path a : List ℕ) → get files path ≡ Some a → get files path ≡ None → ⊥
+pub never_both : (files : Contents) (path a : List ℕ) → get files path ≡ Some a → get files path ≡ None → ⊥
 never_both files path a f g = cc
 
-found_at : (files : Contents) (a b text : List ℕ) → a ≡ b → get files b ≡ Some text → get files a ≡ Some text
+pub found_at : (files : Contents) (a b text : List ℕ) → a ≡ b → get files b ≡ Some text → get files a ≡ Some text
 found_at files a b text e h = ap (get files) e ∙ h
 
 -- the words and the files name one script
-one_read : (words : List (List ℕ)) (files : Contents) (a b : Script) → ReadsScript words files a → ReadsScript words files b → a ≡ b
+pub one_read : (words : List (List ℕ)) (files : Contents) (a b : Script) → ReadsScript words files a → ReadsScript words files b → a ≡ b
 one_read words files a b f g =
     let path = one_path words f.path g.path f.line g.line in
     let text = one_found files f.path f.text g.text f.found (found_at files f.path g.path g.text path g.found) in

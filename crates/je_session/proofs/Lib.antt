@@ -14,3 +14,4 @@ pub mod Causes
 pub mod ClassStops
 pub mod IndexMap
 pub mod Outputs
+pub mod OneRefusal

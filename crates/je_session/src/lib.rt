@@ -8,6 +8,7 @@ mod choose;
 mod class_edit;
 mod edit;
 mod form;
+mod laws;
 mod made;
 mod parse;
 mod paths;
@@ -24,6 +25,7 @@ mod tokens;
 mod words;
 
 pub use edit::edit_method;
+pub use laws::one_refusal;
 pub use parse::parse_script;
 pub use plan::{Fragment, MethodPlan, Rule, Script};
 pub use session::run;
