@@ -53,6 +53,13 @@ impl ClassFile {
         &self.parts
     }
 
+    /// What holds of every class file in memory: each number fits its bytes, and each index names what it has to.
+    pub fn sound(&self)
+        ensures { IsSound self.now }
+    {
+        let _ = self.parts();
+    }
+
     /// The minor version (JVMS 4.1).
     pub fn minor(&self) -> u16
         ensures { result ≡ self.now.minor }
