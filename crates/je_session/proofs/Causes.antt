@@ -1,6 +1,7 @@
 -- What excludes what among the causes of a stop.
-use Rattle.std.proofs.Common.{◌≡◌, ℕ, ◌≤◌, List, length, Option, Some, None, ◌⊎◌, inl, inr, sym, ap, subst, ◌∙◌}
-use Rattle.std.specs.Prelude.{IfSome, ⊤}
+use Rattle.std.proofs.Common.{◌≡◌, ℕ, ◌≤◌, List, length, Option, Some, None, ◌⊎◌, inl, inr, refl, sym, ap, subst, ◌∙◌}
+use Rattle.std.specs.Prelude.{IfSome, [], ◌∷◌}
+use Rattle.std.specs.List.{AllZip}
 use Rattle.std.specs.FinMap.{get}
 use Rattle.je_base.specs.Files.{Contents}
 use Rattle.je_consts.specs.Pool.{class_at}
@@ -12,11 +13,12 @@ use Rattle.je_session.specs.declared.plan.Script.{Script}
 use Rattle.je_session.specs.declared.status.Status.{Status}
 use Rattle.je_session.specs.declared.status.Status.TheVariants as status
 use Rattle.je_session.specs.Forms.{IsLine, IsScript, ClassForm, ReadsScript, ReadsClass, class_path}
-use Rattle.je_session.specs.Fulfils.{HasWritten}
 use Rattle.je_session.specs.Kept.{MethodForm}
-use Rattle.je_session.specs.Cause.{Refusal, NoScript, NotYetScript, NoClass, BadClass, WrongName, NotYetClass, NoLine, Refuses, ReadingFailed, NoMemory, IsClassRefusal, RefusesClass, IsRefusal, IsQuiet}
-use Rattle.je_session.specs.Output.{Put, Write, Taken, Held}
-use Rattle.je_session.specs.ReportText.{ReportText, Outcome, Stopped, Came, Happens, answer_of}
+use Rattle.je_session.specs.Cause.{Refusal, NoScript, NotYetScript, NoClass, BadClass, WrongName, NotYetClass, NoLine, Refuses, ReadingFailed, NoMemory, IsClassRefusal, RefusesClass, IsRefusal, IsQuiet, IsRefused, IsComplete}
+use Rattle.je_session.specs.ClassEdit.{ClassEdit, IsEditOf}
+use Rattle.je_session.specs.Moment.{Moment, FilesFault, OutFault}
+use Rattle.je_session.specs.Output.{Put, Write}
+use Rattle.je_session.specs.Outcome.{Outcome, Stopped, Came, classes_of, AreEdits, Happens, answer_of, IsRun}
 use Rattle.je_session.proofs.ScriptLemmas.{one_script}
 
 pub one_path : (words : List (List ℕ)) (a b : List ℕ) → IsLine words a → IsLine words b → a ≡ b
@@ -102,55 +104,75 @@ line_of_refusal words files (WrongName name other) (script, bytes, reads, found,
 line_of_refusal words files NotYetClass (script, bytes, reads, found, is) = (reads.path, reads.line)
 
 -- what happened where script and class are read and nothing failed
-complete_by : ClassLaws → {files_fault out_fault : Type 0} (words : List (List ℕ)) (files : Contents) (answer : Status) (script : Script) (source : Class) (outcome : Outcome)
-    → Happens words (Some files) files_fault out_fault outcome → answer ≡ answer_of outcome → ReadsScript words files script → ReadsClass files script source → (files_fault → ⊥) → (out_fault → ⊥)
-    → (answer ≡ status.Done) ⊎ (answer ≡ status.Memory)
-complete_by laws words files answer script source (Stopped NoLine) explains is reads finds no_files no_out = absurd (explains reads.path reads.line)
-complete_by laws words files answer script source (Stopped (Refuses refusal)) explains is reads finds no_files no_out = absurd (no_refusal laws words files script source reads finds refusal explains)
-complete_by laws words files answer script source (Stopped (ReadingFailed path)) explains is reads finds no_files no_out = absurd (no_files explains.0)
-complete_by laws words files answer script source (Stopped NoMemory) explains is reads finds no_files no_out = inr is
-complete_by laws words files answer script source (Came e matched None) happens is reads finds no_files no_out = inl is
-complete_by laws words files answer script source (Came e matched (Some (Put piece))) happens is reads finds no_files no_out = absurd (no_out happens.3)
-complete_by laws words files answer script source (Came e matched (Some (Write path bytes))) happens is reads finds no_files no_out = absurd (no_files happens.3)
+complete_by : ClassLaws → (words : List (List ℕ)) (files : Contents) (before after : Moment) (answer : Status) (script : Script) (source : Class) (outcome : Outcome)
+    → before.files.contents ≡ Some files → Happens words before after outcome → answer ≡ answer_of outcome → ReadsScript words files script → ReadsClass files script source
+    → (FilesFault before after → ⊥) → (OutFault before after → ⊥) → (answer ≡ status.Done) ⊎ (answer ≡ status.Memory)
+complete_by laws words files before after answer script source (Stopped NoLine) told explains is reads finds no_files no_out = absurd (explains reads.path reads.line)
+complete_by laws words files before after answer script source (Stopped (Refuses refusal)) told explains is reads finds no_files no_out =
+    absurd (no_refusal laws words files script source reads finds refusal (subst (λ (f : Option Contents). IfSome f (λ b. IsRefusal words b refusal)) told explains))
+complete_by laws words files before after answer script source (Stopped (ReadingFailed path)) told explains is reads finds no_files no_out = absurd (no_files explains.0)
+complete_by laws words files before after answer script source (Stopped NoMemory) told explains is reads finds no_files no_out = inr is
+complete_by laws words files before after answer script source (Came edits None) told happens is reads finds no_files no_out = inl is
+complete_by laws words files before after answer script source (Came edits (Some (Put piece))) told happens is reads finds no_files no_out = absurd (no_out happens.1)
+complete_by laws words files before after answer script source (Came edits (Some (Write path bytes))) told happens is reads finds no_files no_out = absurd (no_files happens.1)
 
-pub complete_from : ClassLaws → {files_fault out_fault err_fault : Type 0} (words : List (List ℕ)) (files : Option Contents) (answer : Status) (old new : Held) (err_old err_new : Taken)
-    → files ≡ old.contents → ReportText words files_fault out_fault err_fault answer old new err_old err_new → (script : Script) (source : Class)
-    → IfSome files (λ before. ReadsScript words before script → ReadsClass before script source → (files_fault → ⊥) → (out_fault → ⊥) → (answer ≡ status.Done) ⊎ (answer ≡ status.Memory))
-complete_from laws words None answer old new err_old err_new is report script source = tt
-complete_from laws {files_fault} {out_fault} words (Some files) answer old new err_old err_new is report script source = λ reads finds no_files no_out.
-    complete_by laws words files answer script source report.outcome (subst (λ (f : Option Contents). Happens words f files_fault out_fault report.outcome) (sym is) report.happens) report.answers reads finds no_files no_out
+complete_told : ClassLaws → (words : List (List ℕ)) (told : Option Contents) (before after : Moment) (answer : Status) → before.files.contents ≡ told → IsRun words before after answer
+    → (script : Script) (source : Class) → IsComplete words told (FilesFault before after) (OutFault before after) script source answer
+complete_told laws words None before after answer told run script source = tt
+complete_told laws words (Some files) before after answer told run script source = λ reads finds no_files no_out.
+    complete_by laws words files before after answer script source run.outcome told run.happens run.answers reads finds no_files no_out
+
+pub complete_from : ClassLaws → (words : List (List ℕ)) (before after : Moment) (answer : Status) → IsRun words before after answer
+    → (script : Script) (source : Class) → IsComplete words before.files.contents (FilesFault before after) (OutFault before after) script source answer
+complete_from laws words before after answer run = complete_told laws words before.files.contents before after answer refl run
 
 -- with a line the answer is not Usage
-not_usage : (files_fault out_fault : Type 0) (words : List (List ℕ)) (files : Option Contents) (answer : Status) (outcome : Outcome) (path : List ℕ)
-    → IsLine words path → Happens words files files_fault out_fault outcome → answer ≡ answer_of outcome → answer ≡ status.Usage → ⊥
-not_usage ff of words files answer (Stopped NoLine) path line explains is usage = explains path line
-not_usage ff of words files answer (Stopped (Refuses refusal)) path line explains is usage = cc
-not_usage ff of words files answer (Stopped (ReadingFailed at)) path line explains is usage = cc
-not_usage ff of words files answer (Stopped NoMemory) path line explains is usage = cc
-not_usage ff of words files answer (Came e matched None) path line explains is usage = cc
-not_usage ff of words files answer (Came e matched (Some step)) path line explains is usage = cc
+not_usage : (words : List (List ℕ)) (before after : Moment) (answer : Status) (outcome : Outcome) (path : List ℕ)
+    → IsLine words path → Happens words before after outcome → answer ≡ answer_of outcome → answer ≡ status.Usage → ⊥
+not_usage words before after answer (Stopped NoLine) path line explains is usage = explains path line
+not_usage words before after answer (Stopped (Refuses refusal)) path line explains is usage = cc
+not_usage words before after answer (Stopped (ReadingFailed at)) path line explains is usage = cc
+not_usage words before after answer (Stopped NoMemory) path line explains is usage = cc
+not_usage words before after answer (Came edits None) path line explains is usage = cc
+not_usage words before after answer (Came edits (Some step)) path line explains is usage = cc
 
-pub no_usage : {files_fault out_fault err_fault : Type 0} (words : List (List ℕ)) (answer : Status) (old new : Held) (err_old err_new : Taken)
-    → ReportText words files_fault out_fault err_fault answer old new err_old err_new → (path : List ℕ) → IsLine words path → answer ≡ status.Usage → ⊥
-no_usage {files_fault} {out_fault} words answer old new err_old err_new report path line usage =
-    not_usage files_fault out_fault words old.contents answer report.outcome path line report.happens report.answers usage
+pub no_usage : (words : List (List ℕ)) (before after : Moment) (answer : Status) → IsRun words before after answer
+    → (path : List ℕ) → IsLine words path → answer ≡ status.Usage → ⊥
+no_usage words before after answer run path line usage = not_usage words before after answer run.outcome path line run.happens run.answers usage
+
+-- what is edited is not refused
+not_edited : ClassLaws → (words : List (List ℕ)) (files : Contents) (script : Script) (edits : List ClassEdit) → ReadsScript words files script
+    → AllZip (IsEditOf (Some files)) (classes_of script) edits → (refusal : Refusal) → IsRefusal words files refusal → ⊥
+not_edited laws words files script [] reads each refusal is = each
+not_edited laws words files script (e ∷ edits) reads each refusal is = no_refusal laws words files script e.source reads each.0.source refusal is
+
+-- what is refused is not done
+not_done_by : ClassLaws → (words : List (List ℕ)) (files : Contents) (before after : Moment) (answer : Status) (outcome : Outcome) → before.files.contents ≡ Some files
+    → Happens words before after outcome → answer ≡ answer_of outcome → (refusal : Refusal) → IsRefusal words files refusal → answer ≡ status.Done → ⊥
+not_done_by laws words files before after answer (Stopped NoLine) told happens is refusal refused done = cc
+not_done_by laws words files before after answer (Stopped (Refuses other)) told happens is refusal refused done = cc
+not_done_by laws words files before after answer (Stopped (ReadingFailed path)) told happens is refusal refused done = cc
+not_done_by laws words files before after answer (Stopped NoMemory) told happens is refusal refused done = cc
+not_done_by laws words files before after answer (Came edits failed) told happens is refusal refused done =
+    let edited = subst (λ (f : Option Contents). AreEdits words f edits) told happens.0 in
+    not_edited laws words files edited.script edits edited.read edited.each refusal refused
+
+refused_told : ClassLaws → (words : List (List ℕ)) (told : Option Contents) (before after : Moment) (answer : Status) → before.files.contents ≡ told → IsRun words before after answer
+    → (refusal : Refusal) → IsRefused words told refusal answer
+refused_told laws words None before after answer told run refusal = tt
+refused_told laws words (Some files) before after answer told run refusal = λ is.
+    let line = line_of_refusal words files refusal is in (
+      λ done. not_done_by laws words files before after answer run.outcome told run.happens run.answers refusal is done,
+      λ usage. no_usage words before after answer run line.0 line.1 usage,
+    )
 
 -- what is refused is not done, and its words are no faulty command line
-pub refuses_from : ClassLaws → {files_fault out_fault err_fault : Type 0} (words : List (List ℕ)) (files after : Option Contents) (answer : Status) (old new : Held) (err_old err_new : Taken)
-    → ReportText words files_fault out_fault err_fault answer old new err_old err_new → (answer ≡ status.Done → HasWritten words files after (λ _. ⊤))
-    → (refusal : Refusal) → IfSome files (λ before. IsRefusal words before refusal → (answer ≡ status.Done → ⊥) × (answer ≡ status.Usage → ⊥))
-refuses_from laws words None after answer old new err_old err_new report written refusal = tt
-refuses_from laws words (Some files) after answer old new err_old err_new report written refusal = λ is.
-    let line = line_of_refusal words files refusal is in (
-      λ done. let w = written done in no_refusal laws words files w.0.script w.0.source w.1.read.script w.1.read.class refusal is,
-      λ usage. no_usage words answer old new err_old err_new report line.0 line.1 usage,
-    )
+pub refuses_from : ClassLaws → (words : List (List ℕ)) (before after : Moment) (answer : Status) → IsRun words before after answer
+    → (refusal : Refusal) → IsRefused words before.files.contents refusal answer
+refuses_from laws words before after answer run = refused_told laws words before.files.contents before after answer refl run
 
 -- the answers after which something was put or written are not quiet
 pub loud : (answer : Status) → answer ≡ status.Outside → IsQuiet answer → ⊥
 loud answer is (inl refused) = cc
 loud answer is (inr (inl usage)) = cc
 loud answer is (inr (inr memory)) = cc
-
-pub not_done : (answer : Status) → answer ≡ status.Outside → answer ≡ status.Done → ⊥
-not_done answer is done = cc

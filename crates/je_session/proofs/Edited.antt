@@ -15,7 +15,6 @@ use Rattle.je_class.specs.Class.{Class, IsNamed, changed_at, with_bytes, with_at
 use Rattle.je_instr.specs.declared.code.MethodCode.{MethodCode}
 use Rattle.je_instr.specs.declared.instr.Instr.{Instr}
 use Rattle.je_instr.specs.declared.instr.Instr.TheVariants as instr
-use Rattle.je_instr.specs.Content.{Content, content_of, content_at}
 use Rattle.je_instr.specs.Operation.{Operation, Program}
 use Rattle.je_instr.specs.Code.{CodeBytes}
 use Rattle.je_instr.specs.Plain.{plain_code}
@@ -25,16 +24,18 @@ use Rattle.je_session.specs.declared.plan.Fragment.{Fragment}
 use Rattle.je_session.specs.declared.plan.Fragment.TheVariants.{Empty, Proceed}
 use Rattle.je_session.specs.declared.plan.MethodPlan.{MethodPlan}
 use Rattle.je_session.specs.declared.plan.Rule.{Rule}
+use Rattle.je_session.specs.Agrees.{Agrees}
 use Rattle.je_session.specs.Chosen.{chosen_rule, matched}
-use Rattle.je_session.specs.Edit.{PlanAgrees, CountsMatched}
+use Rattle.je_session.specs.ClassEdit.{IsPlanEdit, plan_edit}
 use Rattle.je_session.specs.Editable.{IsEditable}
+use Rattle.je_session.specs.EditedMethod.{EditedMethod}
 use Rattle.je_session.specs.KeepsLines.{KeepsLines}
 use Rattle.je_session.specs.Kept.{IsPlanOf, IsPlanned, KeepsConsts, KeepsAttribute, HasTables, KeepsMethod, Kept, MethodForm}
 use Rattle.je_session.specs.ProgramOf.{ProgramOf}
 use Rattle.je_session.specs.Splice.{new_instrs, chosen_fragment}
 use Rattle.je_session.proofs.Choices.{chosen_fragment-Return}
 use Rattle.je_session.proofs.Forms.{EndsByReturn-resolved, IsCodeAt-one}
-use Rattle.je_session.proofs.IndexMap.{new_index, index_map}
+use Rattle.je_session.proofs.IndexMap.{new_index, index_map, all_pieces}
 use Rattle.je_session.proofs.Places.{same_or_other, slice_get-changed_at, slice_get-changed_at_other, length-changed_at, one_place}
 use Rattle.je_session.proofs.Programs.{OneProgram, some_one}
 use Rattle.je_session.proofs.Simulation.{Laws, agrees}
@@ -80,7 +81,7 @@ KeepsConsts-same : (old new : Class) (plans : List MethodPlan) → new.consts �
 KeepsConsts-same old new plans same = record {
   added = ([], same ∙ sym (append-nil old.consts));
   needed = λ k c past here. absurd (no_entry k past (subst (λ l. const_at l k ≡ Some c) same here));
-  new_content = λ k j content past here there. absurd (no_content k past (subst (λ l. content_at l k ≡ Some content) same here));
+  new_entry = λ k j c past here there. absurd (no_entry k past (subst (λ l. const_at l k ≡ Some c) same here));
 }
   where
     none : (k : ℕ) → length old.consts < k → const_at old.consts k ≡ None
@@ -89,11 +90,6 @@ KeepsConsts-same old new plans same = record {
 
     no_entry : (k : ℕ) → length old.consts < k → {c : Const} → const_at old.consts k ≡ Some c → ⊥
     no_entry k past here = let missing = none k past in absurd cc
-
-    no_content : (k : ℕ) → length old.consts < k → {content : Content} → content_at old.consts k ≡ Some content → ⊥
-    no_content k past here =
-        let nothing : content_at old.consts k ≡ None = ap (option_and_then (content_of old.consts)) (none k past) in
-        absurd cc
 
 module _ (c : Class) (plan : MethodPlan) (at : ℕ) (code : MethodCode) (chosen : List (Option Fragment)) (e : IsEditable c plan at code chosen) where
   named : IsNamed c.consts plan.name (codes "()V") e.method
@@ -138,10 +134,12 @@ module _ (c : Class) (plan : MethodPlan) (at : ℕ) (code : MethodCode) (chosen 
         no_return = ends.no_return;
       }
 
-  count_is : count_by is_some chosen ≡ matched source_program plan.rules
+  -- the number of the expressions that are chosen
+  pub count_is : count_by is_some chosen ≡ matched source_program plan.rules
   count_is = ap (count_by is_some) e.choice.chosen_is ∙ matched-chosen plan.rules e.choice.operations
 
-  pub counts_matched : OneProgram → CountsMatched c plan (count_by is_some chosen)
+  counts_matched : OneProgram → (at' : ℕ) (m : Member) (program : Program) → IsPlanOf c at' plan → slice_get c.methods at' ≡ Some m
+      → ProgramOf c m program → count_by is_some chosen ≡ matched program plan.rules
   counts_matched one at' m program is_plan here of =
       let same_place : at ≡ at' = one_place c plan.name (codes "()V") at at' e.is_method is_plan in
       let same_method : e.method ≡ m = some_one (slice_get c.methods at') m e.method here (subst (λ k. slice_get c.methods k ≡ Some e.method) same_place e.here) in
@@ -211,35 +209,38 @@ module _ (one : OneProgram) (c : Class) (plan : MethodPlan) (at : ℕ) (code : M
     no_handlers = (refl, refl);
   }
 
-  pub plan_agrees : Laws → PlanAgrees c edited plan
-  unfolding of_edited
-  plan_agrees laws = record {
+  -- the method of the plan, before and after
+  abbrev edited_method : EditedMethod c edited plan
+  edited_method = record {
     at = at;
     is_planned = e.is_method;
-    source_method = e.method;
-    in_source = e.here;
-    source_program = source_program c plan at code chosen e;
-    of_source = of_source c plan at code chosen e;
-    edited_method = new;
-    in_edited = are_new.here;
-    edited_program = new_program;
-    of_edited = of_edited;
-    agrees = agrees laws (source_program c plan at code chosen e) new_program plan refl refl refl (ap (λ l. new_instrs l e.choice.operations) e.choice.chosen_is);
-    max_stack = is_new.max_stack;
-    max_locals = is_new.max_locals;
+    old_method = e.method;
+    in_before = e.here;
+    old_program = source_program c plan at code chosen e;
+    of_old = of_source c plan at code chosen e;
+    new_method = new;
+    in_after = are_new.here;
+    new_program = new_program;
+    of_new = of_edited;
   }
 
+  method_agrees : Laws → Agrees (source_program c plan at code chosen e) plan new_program
+  method_agrees laws = agrees laws (source_program c plan at code chosen e) new_program plan refl refl refl (ap (λ l. new_instrs l e.choice.operations) e.choice.chosen_is)
+
   -- neither code has tables
-  pub keeps_lines : Laws → KeepsLines c edited plan
-  unfolding plan_agrees of_edited
-  keeps_lines laws = record {
-    method = plan_agrees laws;
-    to = λ i. new_index plan.rules i e.choice.operations;
-    is_map = index_map (source_program c plan at code chosen e) new_program plan.rules (ap (λ l. new_instrs l e.choice.operations) e.choice.chosen_is);
-    old_tables = record { lines = []; variables = []; types = [] };
-    of_source = record { lines = ([], refl, refl); variables = ([], refl, refl); types = ([], refl, refl) };
-    of_edited = record { lines = refl; variables = refl; types = refl };
-  }
+  keeps_lines : KeepsLines c edited plan edited_method
+  unfolding of_edited
+  keeps_lines =
+      let new_is = ap (λ l. new_instrs l e.choice.operations) e.choice.chosen_is in
+      record {
+        to = λ i. new_index plan.rules i e.choice.operations;
+        upto = λ i. new_index plan.rules (i + 1) e.choice.operations;
+        is_map = index_map (source_program c plan at code chosen e) new_program plan.rules new_is;
+        all_pieces = all_pieces (source_program c plan at code chosen e) new_program plan.rules new_is;
+        old_tables = record { lines = []; variables = []; types = [] };
+        of_before = record { lines = ([], refl, refl); variables = ([], refl, refl); types = ([], refl, refl) };
+        of_after = record { lines = refl; variables = refl; types = refl };
+      }
 
   tables : HasTables c.consts new
   tables = record {
@@ -284,7 +285,7 @@ module _ (one : OneProgram) (c : Class) (plan : MethodPlan) (at : ℕ) (code : M
         unchosen = λ k plan' program here is_plan of none. same;
       }
 
-  pub kept : Kept c (plan ∷ []) edited
+  kept : Kept c (plan ∷ []) edited
   kept = record {
     minor = refl;
     major = refl;
@@ -299,10 +300,22 @@ module _ (one : OneProgram) (c : Class) (plan : MethodPlan) (at : ℕ) (code : M
     attributes = refl;
   }
 
+  pub plan_edited : Laws → IsPlanEdit (plan_edit plan c edited (count_by is_some chosen))
+  unfolding of_edited
+  plan_edited laws = record {
+    method = edited_method;
+    agrees = method_agrees laws;
+    lines = keeps_lines;
+    kept = kept;
+    count = count_is c plan at code chosen e;
+    max_stack = is_new.max_stack;
+    max_locals = is_new.max_locals;
+  }
+
 -- a class that nothing is chosen in
-pub unchosen_stays : (one : OneProgram) (laws : Laws) (c : Class) (plan : MethodPlan) (at : ℕ) (code : MethodCode) (chosen : List (Option Fragment))
-    → IsEditable c plan at code chosen → count_by is_some chosen ≡ 0 → Kept c (plan ∷ []) c × PlanAgrees c c plan × KeepsLines c c plan
-unchosen_stays one laws c plan at code chosen e none =
+pub unchosen_edited : (one : OneProgram) (laws : Laws) (c : Class) (plan : MethodPlan) (at : ℕ) (code : MethodCode) (chosen : List (Option Fragment))
+    → IsEditable c plan at code chosen → count_by is_some chosen ≡ 0 → IsPlanEdit (plan_edit plan c c (count_by is_some chosen))
+unchosen_edited one laws c plan at code chosen e none =
     let is_new : IsNewMethod e.code_of.attribute code chosen e.method e.method = record {
       access = refl;
       name = refl;
@@ -317,15 +330,14 @@ unchosen_stays one laws c plan at code chosen e none =
       unchosen = λ _. refl;
     } in
     let are_new : AreNewMethods at e.method c.methods c.methods = record { count = refl; here = e.here; others = λ k other. refl } in
-    (kept one c plan at code chosen e e.method c.methods is_new are_new, plan_agrees one c plan at code chosen e e.method c.methods is_new are_new laws, keeps_lines one c plan at code chosen e e.method c.methods is_new are_new laws)
+    plan_edited one c plan at code chosen e e.method c.methods is_new are_new laws
 
 -- a class in which the code of the plan's method is spliced
-pub spliced_agrees : (one : OneProgram) (laws : Laws) (c : Class) (plan : MethodPlan) (at : ℕ) (code : MethodCode) (chosen : List (Option Fragment))
+pub spliced_edited : (one : OneProgram) (laws : Laws) (c : Class) (plan : MethodPlan) (at : ℕ) (code : MethodCode) (chosen : List (Option Fragment))
     → IsEditable c plan at code chosen → (count_by is_some chosen ≡ 0 → ⊥) → (bytes : List ℕ) (new_code : MethodCode) → CodeBytes bytes (plain_code new_code)
     → new_code.instrs ≡ new_instrs chosen code.instrs → new_code.max_stack ≡ code.max_stack → new_code.max_locals ≡ code.max_locals
-    → Kept c (plan ∷ []) (with_method_attribute at 0 bytes c) × PlanAgrees c (with_method_attribute at 0 bytes c) plan
-    × KeepsLines c (with_method_attribute at 0 bytes c) plan
-spliced_agrees one laws c plan at code chosen e some bytes new_code spelled instrs max_stack max_locals =
+    → IsPlanEdit (plan_edit plan c (with_method_attribute at 0 bytes c) (count_by is_some chosen))
+spliced_edited one laws c plan at code chosen e some bytes new_code spelled instrs max_stack max_locals =
     let new = with_attribute 0 bytes e.method in
     let news = changed_at at (with_attribute 0 bytes) c.methods in
     let is_new : IsNewMethod e.code_of.attribute code chosen e.method new = record {
@@ -346,4 +358,4 @@ spliced_agrees one laws c plan at code chosen e some bytes new_code spelled inst
       here = slice_get-changed_at at (with_attribute 0 bytes) c.methods e.method e.here;
       others = λ k other. slice_get-changed_at_other at k (with_attribute 0 bytes) c.methods other;
     } in
-    (kept one c plan at code chosen e new news is_new are_new, plan_agrees one c plan at code chosen e new news is_new are_new laws, keeps_lines one c plan at code chosen e new news is_new are_new laws)
+    plan_edited one c plan at code chosen e new news is_new are_new laws

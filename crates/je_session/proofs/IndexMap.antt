@@ -5,7 +5,7 @@ use Rattle.std.proofs.lemmas.List.{get_or-append-add}
 use Rattle.std.proofs.lemmas.Option.{slice_get-get_or, slice_get_within, get_or_from_slice_get}
 use Rattle.je_instr.specs.Operation.{Operation, Nop, Return, InvokeStatic, Program}
 use Rattle.je_session.specs.declared.plan.Rule.{Rule}
-use Rattle.je_session.specs.KeepsLines.{with_targets, IsIndexMap}
+use Rattle.je_session.specs.KeepsLines.{with_targets, IsIndexMap, IsAllPieces}
 use Rattle.je_session.specs.Splice.{new_instrs, chosen_fragment}
 use Rattle.je_session.proofs.Simulation.{new_operations}
 use Rattle.je_session.proofs.Spliced.{new_instrs-first}
@@ -71,13 +71,13 @@ module _ (rules : List Rule) where
       let rest = stays_next i operations operation here none in
       omega (arith, rest)
 
--- The spliced program has its operations where the map says.
+-- The spliced program has its operations where the map says; what stands for an instruction ends where the next one goes.
 pub index_map : (p q : Program) (rules : List Rule) → q.operations ≡ new_operations rules p.operations
-    → IsIndexMap p rules q (λ i. new_index rules i p.operations)
+    → IsIndexMap p rules q (λ i. new_index rules i p.operations) (λ i. new_index rules (i + 1) p.operations)
 index_map p q rules new_is = record {
-  first = refl;
-  end = new_index-end rules p.operations ∙ ap length (sym new_is);
   rises = λ i j le. new_index-rises rules i j p.operations le;
+  piece = λ i lt. (new_index-rises rules i (i + 1) p.operations (omega arith), omega arith);
+  within = let end = new_index-end rules p.operations ∙ ap length (sym new_is) in omega (arith, end);
   stays = λ i operation here unchosen.
       let none : chosen_fragment rules operation ≡ None = subst (λ o. option_and_then (chosen_fragment rules) o ≡ None) here unchosen in
       record {
@@ -85,6 +85,15 @@ index_map p q rules new_is = record {
             ap (λ (l : List Operation). slice_get l (new_index rules i p.operations)) new_is
             ∙ stays_here rules i p.operations operation here none
             ∙ ap Some (sym (with_targets-none (λ k. new_index rules k p.operations) operation));
-        next = ap (λ k. new_index rules k p.operations) (add-one i) ∙ stays_next rules i p.operations operation here none;
+        alone = ap (λ k. new_index rules k p.operations) (add-one i) ∙ stays_next rules i p.operations operation here none;
       };
+}
+
+-- and these are all of it
+pub all_pieces : (p q : Program) (rules : List Rule) → q.operations ≡ new_operations rules p.operations
+    → IsAllPieces p q (λ i. new_index rules i p.operations) (λ i. new_index rules (i + 1) p.operations)
+all_pieces p q rules new_is = record {
+  before = refl;
+  between = λ i lt. refl;
+  behind = new_index-end rules p.operations ∙ ap length (sym new_is);
 }

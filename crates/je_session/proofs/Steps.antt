@@ -1,22 +1,22 @@
 -- The steps of a run, put together.
-use Rattle.std.proofs.Common.{◌⊎◌, inl, inr, subst, ◌≡◌, ℕ, ◌<◌, ◌≤◌, List, [], ◌∷◌, Option, Some, None, Result, Ok, Err, length, refl, ap, ◌∙◌, arith}
-use Rattle.std.specs.Prelude.{IfOk, IfSome, ⊤, string_bytes}
+use Rattle.std.proofs.Common.{◌⊎◌, inl, inr, ◌≡◌, ℕ, ◌<◌, ◌≤◌, List, [], ◌∷◌, ◌++◌, Option, Some, None, Result, Ok, Err, length, refl, sym, ap, ◌∙◌, arith}
+use Rattle.std.specs.Prelude.{IfOk, IfSome, string_bytes}
 use Rattle.std.specs.List.{AllByRecursion}
-use Rattle.std.specs.Option.{option_map}
-use Rattle.std.specs.FinMap.{insert}
+use Rattle.std.proofs.lemmas.List.{append-nil}
 use Rattle.std.proofs.lemmas.List.Elements.{All-from_recursion}
 use Rattle.je_base.specs.Count.{HasFault}
-use Rattle.je_base.specs.Files.{Contents, KeepsOthers}
+use Rattle.je_base.specs.Files.{Contents}
 use Rattle.je_class.specs.Class.{Class}
 use Rattle.je_class.specs.ClassBytes.{ClassBytes}
 use Rattle.je_session.specs.declared.made.Made.{Made}
 use Rattle.je_session.specs.declared.plan.Script.{Script}
 use Rattle.je_session.specs.Tokens.{IsWordByte}
 use Rattle.je_session.specs.Script.{ScriptForm}
-use Rattle.je_session.specs.Forms.{Holds, IsLine, ClassForm, ReadsScript, class_path, out_path}
-use Rattle.je_session.specs.Edit.{Edit, IsRead, IsWritten, ReadsBack, CountsMatched, HasAsciiNames}
-use Rattle.je_session.specs.Fulfils.{Fulfils, PlansAgree, PlansKeepLines, HasWritten, Stands, IsEdited}
-use Rattle.je_session.specs.Prepared.{HasLines, IsPrepared}
+use Rattle.je_session.specs.Forms.{Holds, IsLine, ClassForm, ReadsScript, ReadsClass, class_path, out_path}
+use Rattle.je_session.specs.ClassEdit.{ClassEdit, IsPlanEdit, plan_edit, IsEditOf}
+use Rattle.je_session.specs.Output.{Step, Put, Write}
+use Rattle.je_session.specs.ReportText.{edited_line, wrote_line, put_some, output_of}
+use Rattle.je_session.specs.Prepared.{HasAsciiNames, HasLines, IsPrepared, output}
 
 pub reads_script : (words : List (List ℕ)) (files : Option Contents) (path text : List ℕ) (script : Script)
     → IsLine words path → Holds files path text → length text ≤ 4194304 → ScriptForm text script
@@ -36,56 +36,72 @@ ascii_names text script form =
     let after_void = after_class.6.5.6.6 in
     (All-from_recursion (λ b. b < 128) script.class_name (word_below script.class_name after_class.3.1), All-from_recursion (λ b. b < 128) script.plan.name (word_below script.plan.name after_void.3.1))
 
-both_read : (words : List (List ℕ)) (files : Option Contents) (bytes : List ℕ) (script : Script) (source edited : Class) (written : List ℕ)
-    → IfSome files (λ before. ReadsScript words before script) → Holds files (class_path script.class_name) bytes → ClassForm script bytes source
-    → IfSome files (λ before. IsRead words before (record { script = script; source = source; bytes = written; edited = edited }))
-both_read words None bytes script source edited written reads holds form = tt
-both_read words (Some files) bytes script source edited written reads holds form =
-    record { script = reads; class = record { bytes = bytes; found = holds; is_class = form } }
+-- ---- what is made
+
+-- the edit of a script's class
+abbrev the_edit : Script → Class → Class → ℕ → List ℕ → ClassEdit
+the_edit script source edited matched bytes = record {
+  name = script.class_name;
+  source = source;
+  plans = plan_edit script.plan source edited matched ∷ [];
+  edited = edited;
+  bytes = bytes;
+}
+
+reads_class : (files : Option Contents) (script : Script) (bytes : List ℕ) (source : Class) → Holds files (class_path script.class_name) bytes
+    → ClassForm script bytes source → IfSome files (λ before. ReadsClass before script source)
+reads_class None script bytes source holds form = tt
+reads_class (Some files) script bytes source holds form = record { bytes = bytes; found = holds; is_class = form }
+
+is_edit : (files : Option Contents) (script : Script) (bytes : List ℕ) (source edited : Class) (matched : ℕ) (written : List ℕ)
+    → Holds files (class_path script.class_name) bytes → ClassForm script bytes source → IsPlanEdit (plan_edit script.plan source edited matched)
+    → ClassBytes written edited → IsEditOf files script (the_edit script source edited matched written)
+is_edit files script bytes source edited matched written holds form is_plan_edit spelled = record {
+  name = refl;
+  planned = refl;
+  source = reads_class files script bytes source holds form;
+  leads = (refl, is_plan_edit, refl);
+  kept = is_plan_edit.kept;
+  bytes = spelled;
+}
+
+steps : List ℕ → List ℕ → List ℕ → List ℕ → List Step
+steps first path bytes last = Put first ∷ Write path bytes ∷ Put last ∷ []
+
+-- the line of one method is not empty
+one_line : (class method : List ℕ) (matched : ℕ) → put_some ((edited_line class method matched ++ []) ++ []) ≡ Put (edited_line class method matched) ∷ []
+one_line class method matched =
+    let line = edited_line class method matched in
+    ap put_some (append-nil (line ++ []) ∙ append-nil line)
+
+-- what was made is the output of the edit
+output-edit : (made : Made) (script : Script) (source edited : Class) (matched : ℕ) → HasLines script matched made
+    → output made ≡ output_of (the_edit script source edited matched made.bytes.items ∷ [])
+unfolding steps
+output-edit made script source edited matched lines =
+    let line = edited_line script.class_name script.plan.name matched in
+    let path = out_path script.class_name in
+    ap (λ (l : List ℕ). steps l (string_bytes made.path) made.bytes.items (string_bytes made.wrote_line)) lines.edited_line
+    ∙ ap (λ (l : List ℕ). steps line (string_bytes made.path) made.bytes.items l) lines.wrote_line
+    ∙ ap (λ (at : List ℕ). steps line at made.bytes.items (wrote_line at)) lines.path
+    ∙ sym (ap (λ (first : List Step). first ++ Write path made.bytes.items ∷ Put (wrote_line path) ∷ []) (one_line script.class_name script.plan.name matched))
 
 pub prepared : (words : List (List ℕ)) (files : Option Contents) (bytes : List ℕ) (script : Script) (source edited : Class) (matched : ℕ) (made : Made)
     → ((path : List ℕ) × IsLine words path)
     → IfSome files (λ before. ReadsScript words before script) → Holds files (class_path script.class_name) bytes
-    → ClassForm script bytes source → IsEdited source script.plan edited → CountsMatched source script.plan matched
+    → ClassForm script bytes source → IsPlanEdit (plan_edit script.plan source edited matched)
     → ClassBytes made.bytes.items edited → HasLines script matched made → IsPrepared words files made
-prepared words files bytes script source edited matched made line reads holds form is_edited counts spelled lines = record {
-  line = line;
-  e = record { script = script; source = source; bytes = made.bytes.items; edited = edited };
-  matched = matched;
-  read = both_read words files bytes script source edited made.bytes.items reads holds form;
-  counts = counts;
-  bytes = refl;
-  lines = lines;
-  fulfils = record { reads_back = record { bytes = spelled; kept = is_edited.kept }; agree = (is_edited.agrees, tt); lines = (is_edited.lines, tt) };
+prepared words files bytes script source edited matched made line reads holds form is_plan_edit spelled lines = record {
+  edits = the_edit script source edited matched made.bytes.items ∷ [];
+  are_edits = record {
+    line = line;
+    script = script;
+    read = reads;
+    each = (is_edit files script bytes source edited matched made.bytes.items holds form is_plan_edit spelled, tt);
+  };
+  output = output-edit made script source edited matched lines;
+  writing_line = lines.writing_line;
 }
-
-pub written : (words : List (List ℕ)) (files after : Option Contents) (made : Made)
-    → IsPrepared words files made → after ≡ option_map (λ before. insert before (string_bytes made.path) made.bytes.items) files
-    → IfSome files (λ before. (e : Edit) × IsWritten words before after e × Fulfils e)
-written words None after made p is = tt
-written words (Some files) after made p is =
-    (p.e, record { read = p.read; files = is ∙ ap (λ (path : List ℕ). Some (insert files path made.bytes.items)) p.lines.path ∙ ap (λ (b : List ℕ). Some (insert files (out_path p.e.script.class_name) b)) p.bytes }, p.fulfils)
-
--- the parts of what was written
-pub only_written : (words : List (List ℕ)) (files after : Option Contents)
-    → IfSome files (λ before. (e : Edit) × IsWritten words before after e × Fulfils e) → HasWritten words files after (λ _. ⊤)
-only_written words None after p = tt
-only_written words (Some files) after p = (p.0, p.1, tt)
-
-pub only_reads_back : (words : List (List ℕ)) (files after : Option Contents)
-    → IfSome files (λ before. (e : Edit) × IsWritten words before after e × Fulfils e) → HasWritten words files after ReadsBack
-only_reads_back words None after p = tt
-only_reads_back words (Some files) after p = (p.0, p.1, p.2.reads_back)
-
-pub only_agree : (words : List (List ℕ)) (files after : Option Contents)
-    → IfSome files (λ before. (e : Edit) × IsWritten words before after e × Fulfils e) → HasWritten words files after PlansAgree
-only_agree words None after p = tt
-only_agree words (Some files) after p = (p.0, p.1, p.2.agree)
-
-pub only_lines : (words : List (List ℕ)) (files after : Option Contents)
-    → IfSome files (λ before. (e : Edit) × IsWritten words before after e × Fulfils e) → HasWritten words files after PlansKeepLines
-only_lines words None after p = tt
-only_lines words (Some files) after p = (p.0, p.1, p.2.lines)
 
 -- what follows from two facts about an `Ok`
 pub if_ok_both : {T E : Type 0} {P Q R : T → Type 0} (r : Result T E) → IfOk r P → IfOk r Q → ((x : T) → P x → Q x → R x) → IfOk r R
@@ -98,20 +114,3 @@ if_ok_both (Err e) p q f = tt
 pub fault_since : (a b c : ℕ) → a ≤ b → HasFault b c → HasFault a c
 fault_since a b c le (inl rose) = inl (omega arith)
 fault_since a b c le (inr last) = inr last
-
--- after a write that failed
-pub stands_open : {files_fault : Type 0} (words : List (List ℕ)) (files after : Option Contents) (made : Made)
-    → files_fault → IsPrepared words files made → KeepsOthers (string_bytes made.path) files after → Stands words files files_fault after
-stands_open words None None made fault p keeps = refl
-stands_open words None (Some after) made fault p keeps = absurd keeps
-stands_open words (Some before) after made fault p keeps =
-    inr (inr (fault, (p.e, p.read, subst (λ (at : List ℕ). KeepsOthers at (Some before) after) p.lines.path keeps)))
-
--- after a put that failed
-pub stands_put : (files_fault : Type 0) (words : List (List ℕ)) (files after : Option Contents) (made : Made)
-    → IsPrepared words files made
-    → (after ≡ files) ⊎ (after ≡ option_map (λ before. insert before (string_bytes made.path) made.bytes.items) files) → Stands words files files_fault after
-stands_put files_fault words None after made p (inl same) = same
-stands_put files_fault words None after made p (inr same) = same
-stands_put files_fault words (Some before) after made p (inl same) = inl same
-stands_put files_fault words (Some before) after made p (inr new) = inr (inl (written words (Some before) after made p new))

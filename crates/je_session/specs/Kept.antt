@@ -10,9 +10,8 @@ use Rattle.je_class.specs.declared.member.Member.{Member}
 use Rattle.je_class.specs.Class.{Class, IsMethodAt}
 use Rattle.je_instr.specs.declared.instr.Instr.{Instr}
 use Rattle.je_instr.specs.declared.instr.Instr.TheVariants as instr
-use Rattle.je_instr.specs.Content.{Content, content_at}
 use Rattle.je_instr.specs.Operation.{Operation, Return, Program}
-use Rattle.je_instr.specs.Code.{Code, CodeBytes}
+use Rattle.je_instr.specs.Code.{RawHandler, AttributeInfo, Code, CodeBytes}
 use Rattle.je_session.specs.declared.plan.MethodPlan.{MethodPlan}
 use Rattle.je_session.specs.Chosen.{matched}
 use Rattle.je_session.specs.ProgramOf.{IsCode, IsCodeAt, ProgramOf}
@@ -44,21 +43,33 @@ RefersTo (const.MethodType descriptor) k = descriptor ≡ k
 RefersTo (const.InvokeDynamic bootstrap member) k = member ≡ k
 RefersTo _ k = ⊥
 
--- The instructions name the constant, or name one behind the first `before` that leads to it through such ones.
-pub data IsNeeded (consts : List Place) (before : ℕ) (instrs : List Instr) : ℕ → Type 0 where
-  by_code : (k at : ℕ) (i : Instr) → slice_get instrs at ≡ Some i → NamesConst k i → IsNeeded consts before instrs k
-  by_const : (j k : ℕ) (c : Const) → before < j → IsNeeded consts before instrs j → const_at consts j ≡ Some c → RefersTo c k → IsNeeded consts before instrs k
+-- The code names the constant of this index: an instruction does, a handler whose catch type it is (JVMS 4.7.3), or an
+-- attribute of the code whose name it is. A frame's class stands in the bytes of such an attribute, of which there are
+-- none so far.
+pub data NamedByCode (code : Code) (instrs : List Instr) : ℕ → Type 0 where
+  by_instr : (k at : ℕ) (i : Instr) → slice_get instrs at ≡ Some i → NamesConst k i → NamedByCode code instrs k
+  by_handler : (k at : ℕ) (h : RawHandler) → slice_get code.handlers at ≡ Some h → h.catch_const ≡ k
+      → NamedByCode code instrs k
+  by_attribute : (k at : ℕ) (a : AttributeInfo) → slice_get code.attributes at ≡ Some a → a.name ≡ k
+      → NamedByCode code instrs k
 
--- Constants stay at their indexes. Each entry that is added is needed by the code of a planned method, and says what no
--- other says.
+-- The code names the constant, or names one behind the first `before` that leads to it through such ones.
+pub data IsNeeded (consts : List Place) (before : ℕ) (code : Code) (instrs : List Instr) : ℕ → Type 0 where
+  by_code : (k : ℕ) → NamedByCode code instrs k → IsNeeded consts before code instrs k
+  by_const : (j k : ℕ) (c : Const) → before < j → IsNeeded consts before code instrs j → const_at consts j ≡ Some c
+      → RefersTo c k → IsNeeded consts before code instrs k
+
+-- Constants stay at their indexes. Each entry that is added is needed by the code of a planned method, and no other index
+-- holds this entry. Entries are compared and not what they say in the end: a class file may hold equal texts twice, and
+-- then two different entries that name them say the same.
 pub record KeepsConsts (old : Class) (plans : List MethodPlan) (new : Class) : Type 0 where
   pub added : (more : List Place) × (new.consts ≡ old.consts ++ more)
   pub needed : (k : ℕ) (c : Const) → length old.consts < k → const_at new.consts k ≡ Some c
       → (at : ℕ) × IsPlanned old plans at
       × (m : Member) × (slice_get new.methods at ≡ Some m)
-      × (program : Program) × (p : ProgramOf new m program) × IsNeeded new.consts (length old.consts) p.instrs k
-  pub new_content : (k j : ℕ) (content : Content) → length old.consts < k
-      → content_at new.consts k ≡ Some content → content_at new.consts j ≡ Some content → j ≡ k
+      × (program : Program) × (p : ProgramOf new m program) × IsNeeded new.consts (length old.consts) p.code p.instrs k
+  pub new_entry : (k j : ℕ) (c : Const) → length old.consts < k
+      → const_at new.consts k ≡ Some c → const_at new.consts j ≡ Some c → j ≡ k
 
 -- ---- methods
 

@@ -5,6 +5,7 @@ use Rattle.std.specs.FinMap.{insert}
 use Rattle.je_base.specs.Count.{raised}
 use Rattle.je_base.specs.Files.{Contents, KeepsOthers}
 use Rattle.je_base.specs.Sink.{GainsFront}
+use Rattle.je_session.specs.Moment.{Moment}
 
 -- a piece put on standard output, or the bytes written at a path
 pub data Step : Type 0 where
@@ -27,6 +28,13 @@ taken bytes puts = record { bytes = bytes; puts = puts }
 
 abbrev pub held : Option Contents → ℕ → Option (List ℕ) → ℕ → Held
 held contents writes bytes puts = record { contents = contents; writes = writes; out = taken bytes puts }
+
+-- what a moment has of these
+abbrev pub held_of : Moment → Held
+held_of m = held m.files.contents m.files.writes m.out.bytes m.out.puts
+
+abbrev pub told_to : Moment → Taken
+told_to m = taken m.err.bytes m.err.puts
 
 -- a piece that is put
 abbrev pub put : List ℕ → Taken → Taken

@@ -5,8 +5,7 @@ ghost use Rattle.je_consts.specs.Pool.{class_at};
 ghost use Rattle.je_class.specs.Class.{Class};
 ghost use Rattle.je_session.specs.Cause.{StoppedAtBytes};
 ghost use Rattle.je_session.specs.Forms.{ClassForm};
-ghost use Rattle.je_session.specs.Edit.{CountsMatched};
-ghost use Rattle.je_session.specs.Fulfils.{IsEdited};
+ghost use Rattle.je_session.specs.ClassEdit.{IsPlanEdit, plan_edit};
 
 use crate::edit::edit_method;
 use crate::plan::Script;
@@ -21,7 +20,8 @@ const MAJOR: u16 = 49;
 
 /// The class of the script after the edits of its plan, and how many expressions the rules chose.
 pub fn edit_class(alloc: Global, script: &Script, bytes: &[u8]) -> Result<(ClassFile, usize), Stop>
-    ensures edited { IfOk result (λ edited. (source : Class) × ClassForm script.now bytes.now source × IsEdited source script.now.plan edited.0 × CountsMatched source script.now.plan edited.1) }
+    ensures edited { IfOk result (λ edited. (source : Class) × ClassForm script.now bytes.now source
+        × IsPlanEdit (plan_edit script.now.plan source edited.0 edited.1)) }
     ensures stopped { IfErr result (StoppedAtBytes script.now bytes.now) }
 {
     let mut class = match read_class(alloc, bytes) {

@@ -1,10 +1,9 @@
 //! The edit of one method.
 
-ghost use Rattle.std.specs.Prelude.{◌≡◌, [], ◌∷◌, IfOk, IfErr, OnOk, OnErr};
+ghost use Rattle.std.specs.Prelude.{◌≡◌, IfOk, IfErr, OnOk, OnErr};
 ghost use Rattle.je_session.specs.declared.stop.EditStop.TheVariants as stops;
-ghost use Rattle.je_session.specs.Edit.{PlanAgrees, CountsMatched};
-ghost use Rattle.je_session.specs.KeepsLines.{KeepsLines};
-ghost use Rattle.je_session.specs.Kept.{Kept, MethodForm};
+ghost use Rattle.je_session.specs.ClassEdit.{IsPlanEdit, plan_edit};
+ghost use Rattle.je_session.specs.Kept.{MethodForm};
 
 use crate::choose::count_chosen;
 use crate::form::find_editable;
@@ -24,10 +23,10 @@ pub fn edit_method(
     class: &mut ClassFile,
     plan: &MethodPlan,
 ) -> Result<usize, EditStop>
-    ensures kept { OnOk result (Kept class.old (plan.now ∷ []) class.new) }
-    ensures agrees { OnOk result (PlanAgrees class.old class.new plan.now) }
-    ensures lines { OnOk result (KeepsLines class.old class.new plan.now) }
-    ensures matched { IfOk result (CountsMatched class.old plan.now) }
+    // All that the edit owes is said of the same method and the same number.
+    ensures edited { IfOk result (λ matched.
+        IsPlanEdit (plan_edit plan.now class.old class.new matched)) }
+    // It is refused exactly where the method has not the form.
     ensures form { OnOk result (MethodForm class.old plan.now.name) }
     ensures not_yet { IfErr result (λ e.
         e ≡ stops.NotYet → MethodForm class.old plan.now.name → ⊥) }

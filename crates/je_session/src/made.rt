@@ -2,10 +2,9 @@
 
 ghost use Rattle.std.specs.Prelude.{◌≡◌, IfOk, IfErr, string_bytes};
 ghost use Rattle.je_class.specs.ClassBytes.{ClassBytes};
-ghost use Rattle.je_session.specs.Edit.{HasAsciiNames};
 ghost use Rattle.je_session.specs.Cause.{NoMemory, TellsCause};
 ghost use Rattle.je_session.specs.ReportText.{edited_line};
-ghost use Rattle.je_session.specs.Prepared.{HasLines};
+ghost use Rattle.je_session.specs.Prepared.{HasAsciiNames, HasLines};
 
 use crate::paths::class_file;
 use crate::plan::Script;
@@ -48,7 +47,8 @@ pub fn make(alloc: Global, script: &Script, class: &ClassFile, matched: usize) -
 }
 
 fn edited_line(alloc: Global, script: &Script, matched: usize) -> Result<String, Memory>
-    ensures { IfOk result (λ line. string_bytes line ≡ edited_line script.now matched) }
+    ensures { IfOk result (λ line.
+        string_bytes line ≡ edited_line script.now.class_name script.now.plan.name matched) }
 {
     let class = script.class_name.show()?;
     let method = script.plan.name.show()?;

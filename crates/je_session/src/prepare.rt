@@ -4,8 +4,7 @@ ghost use Rattle.std.specs.Prelude.{◌≡◌, ℕ, ◌≤◌, List, vec_len, If
 ghost use Rattle.je_base.specs.Count.{HasFault};
 ghost use Rattle.je_session.specs.Texts.{texts};
 ghost use Rattle.je_session.specs.Forms.{IsLine, Holds, ReadsScript, class_path};
-ghost use Rattle.je_session.specs.Edit.{HasAsciiNames};
-ghost use Rattle.je_session.specs.Prepared.{IsPrepared};
+ghost use Rattle.je_session.specs.Prepared.{HasAsciiNames, IsPrepared};
 ghost use Rattle.je_session.specs.Cause.{Stopped, StoppedAtClass};
 
 use crate::class_edit::edit_class;

@@ -12,4 +12,4 @@ pub returns-clause-made : goal.returns-clause-made
 returns-clause-made g c =
     let edited = c.in_ok-class.ensures.edited in
     if_ok_both c.make.result c.make.ensures.bytes c.make.ensures.lines (λ made spelled lines.
-    prepared _ _ c.in_ok-bytes.bytes.items c.in_ok-script.script edited.0 c.in_ok-class.class c.in_ok-class.matched made c.in_ok-script.ensures.line c.in_ok-script.ensures.found (rw (← c.read_script.ensures.contents) c.in_ok-bytes.ensures.found) (rw (← c.deref.ensures.value) edited.1) edited.2 edited.3 spelled lines)
+    prepared _ _ c.in_ok-bytes.bytes.items c.in_ok-script.script edited.0 c.in_ok-class.class c.in_ok-class.matched made c.in_ok-script.ensures.line c.in_ok-script.ensures.found (rw (← c.read_script.ensures.contents) c.in_ok-bytes.ensures.found) (rw (← c.deref.ensures.value) edited.1) edited.2 spelled lines)

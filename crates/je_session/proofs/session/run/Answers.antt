@@ -1,60 +1,45 @@
 use Rattle.std.proofs.Common.{Err, Some, None, refl, ap, ◌∙◌}
 use Rattle.je_session.specs.Output.{Put, Write}
-use Rattle.je_session.proofs.Causes.{laws_of, complete_from, refuses_from, loud, not_done}
-use Rattle.je_session.proofs.Outputs.{since_start, all_done, put_failed, write_failed, writes_once, report_done, report_failed, report_stopped}
-use Rattle.je_session.proofs.Steps.{written, only_written, only_reads_back, only_agree, only_lines, fault_since, stands_open, stands_put}
+use Rattle.je_session.specs.Prepared.{output}
+use Rattle.je_session.proofs.Causes.{laws_of, complete_from, refuses_from, no_usage, loud}
+use Rattle.je_session.proofs.Outputs.{since_start, run_done, run_failed, run_stopped, done_of_run}
+use Rattle.je_session.proofs.Steps.{fault_since}
 use Rattle.je_session.proofs.session.run.Goals as goal
 
 -- ---- all is done
 
-pub returns-in-Ok-finish-clause-written : goal.returns-in-Ok-finish-clause-written
-returns-in-Ok-finish-clause-written g c = λ _.
-    only_written _ _ _ (written _ _ _ _ c.in-Ok.ensures.made (all_done c.in-Ok.made _ _ (since_start _ c.in-Ok.made None _ _ _ _ _ _ _ c.in-Ok.ensures.made c.prepare.ensures.contents c.prepare.ensures.writes c.in-Ok-finish.ensures.done)))
+pub returns-in-Ok-finish-clause-outcome : goal.returns-in-Ok-finish-clause-outcome
+returns-in-Ok-finish-clause-outcome g c =
+    run_done _ _ _ c.in-Ok.made c.in-Ok.ensures.made (since_start (output c.in-Ok.made) None _ _ _ _ _ _ _ c.prepare.ensures.contents c.prepare.ensures.writes c.in-Ok-finish.ensures.done) refl
 
-pub returns-in-Ok-finish-clause-reads_back : goal.returns-in-Ok-finish-clause-reads_back
-returns-in-Ok-finish-clause-reads_back g c = λ _.
-    only_reads_back _ _ _ (written _ _ _ _ c.in-Ok.ensures.made (all_done c.in-Ok.made _ _ (since_start _ c.in-Ok.made None _ _ _ _ _ _ _ c.in-Ok.ensures.made c.prepare.ensures.contents c.prepare.ensures.writes c.in-Ok-finish.ensures.done)))
-
-pub returns-in-Ok-finish-clause-agrees : goal.returns-in-Ok-finish-clause-agrees
-returns-in-Ok-finish-clause-agrees g c = λ _.
-    only_agree _ _ _ (written _ _ _ _ c.in-Ok.ensures.made (all_done c.in-Ok.made _ _ (since_start _ c.in-Ok.made None _ _ _ _ _ _ _ c.in-Ok.ensures.made c.prepare.ensures.contents c.prepare.ensures.writes c.in-Ok-finish.ensures.done)))
-
-pub returns-in-Ok-finish-clause-lines : goal.returns-in-Ok-finish-clause-lines
-returns-in-Ok-finish-clause-lines g c = λ _.
-    only_lines _ _ _ (written _ _ _ _ c.in-Ok.ensures.made (all_done c.in-Ok.made _ _ (since_start _ c.in-Ok.made None _ _ _ _ _ _ _ c.in-Ok.ensures.made c.prepare.ensures.contents c.prepare.ensures.writes c.in-Ok-finish.ensures.done)))
-
-pub returns-in-Ok-finish-clause-report : goal.returns-in-Ok-finish-clause-report
-returns-in-Ok-finish-clause-report g c =
-    report_done _ _ _ _ _ c.in-Ok.ensures.made (since_start _ c.in-Ok.made None _ _ _ _ _ _ _ c.in-Ok.ensures.made c.prepare.ensures.contents c.prepare.ensures.writes c.in-Ok-finish.ensures.done)
+pub returns-in-Ok-finish-clause-done : goal.returns-in-Ok-finish-clause-done
+returns-in-Ok-finish-clause-done g c = done_of_run _ _ _ _ (returns-in-Ok-finish-clause-outcome g c)
 
 pub returns-in-Ok-finish-clause-refused : goal.returns-in-Ok-finish-clause-refused
 returns-in-Ok-finish-clause-refused g c =
-    refuses_from (laws_of c.one_class.ensures.same c.one_class.ensures.no_fault) _ _ _ _ _ _ _ _ (returns-in-Ok-finish-clause-report g c) (returns-in-Ok-finish-clause-written g c)
+    refuses_from (laws_of c.one_class.ensures.same c.one_class.ensures.no_fault) _ _ _ _ (returns-in-Ok-finish-clause-outcome g c)
 
 -- ---- the write failed
 
-pub returns-in-Err-Writing-clause-report : goal.returns-in-Err-Writing-clause-report
-returns-in-Err-Writing-clause-report g c =
-    let goes = since_start _ c.in-Ok.made (Some (Write _ _)) _ _ _ _ _ _ _ c.in-Ok.ensures.made c.prepare.ensures.contents c.prepare.ensures.writes (c.in-Err-Writing.ensures.writing (ap Err c.in-Err-Writing.field-0-is)) in
+pub returns-in-Err-Writing-clause-outcome : goal.returns-in-Err-Writing-clause-outcome
+returns-in-Err-Writing-clause-outcome g c =
+    let goes = since_start (output c.in-Ok.made) (Some (Write _ _)) _ _ _ _ _ _ _ c.prepare.ensures.contents c.prepare.ensures.writes (c.in-Err-Writing.ensures.writing (ap Err c.in-Err-Writing.field-0-is)) in
     let fault = fault_since _ _ _ c.prepare.ensures.faults (c.in-Err-Writing.ensures.writing_fault (ap Err c.in-Err-Writing.field-0-is)) in
-    report_failed _ _ _ _ _ _ _ (Write _ _) c.as_bytes.result.now c.in-Ok.ensures.made goes fault c.tell.ensures.status (c.as_bytes.ensures.value ∙ c.in-Ok.ensures.made.lines.writing_line) c.tell.ensures.put c.tell.ensures.whole
+    run_failed _ _ _ _ c.in-Ok.made (Write _ _) c.as_bytes.result.now c.in-Ok.ensures.made goes fault c.tell.ensures.status (c.as_bytes.ensures.value ∙ c.in-Ok.ensures.made.writing_line) c.tell.ensures.put c.tell.ensures.whole
 
-pub returns-in-Err-Writing-clause-outside : goal.returns-in-Err-Writing-clause-outside
-returns-in-Err-Writing-clause-outside g c = λ _.
-    let goes = since_start _ c.in-Ok.made (Some (Write _ _)) _ _ _ _ _ _ _ c.in-Ok.ensures.made c.prepare.ensures.contents c.prepare.ensures.writes (c.in-Err-Writing.ensures.writing (ap Err c.in-Err-Writing.field-0-is)) in
-    let fault = fault_since _ _ _ c.prepare.ensures.faults (c.in-Err-Writing.ensures.writing_fault (ap Err c.in-Err-Writing.field-0-is)) in
-    stands_open _ _ _ _ fault c.in-Ok.ensures.made (write_failed c.in-Ok.made _ _ goes)
+pub returns-in-Err-Writing-clause-done : goal.returns-in-Err-Writing-clause-done
+returns-in-Err-Writing-clause-done g c = done_of_run _ _ _ _ (returns-in-Err-Writing-clause-outcome g c)
 
-pub returns-in-Err-Writing-clause-at_most_once : goal.returns-in-Err-Writing-clause-at_most_once
-returns-in-Err-Writing-clause-at_most_once g c =
-    writes_once c.in-Ok.made _ _ _ (since_start _ c.in-Ok.made (Some (Write _ _)) _ _ _ _ _ _ _ c.in-Ok.ensures.made c.prepare.ensures.contents c.prepare.ensures.writes (c.in-Err-Writing.ensures.writing (ap Err c.in-Err-Writing.field-0-is)))
+pub returns-in-Err-Writing-clause-line : goal.returns-in-Err-Writing-clause-line
+returns-in-Err-Writing-clause-line g c = no_usage _ _ _ _ (returns-in-Err-Writing-clause-outcome g c)
 
 pub returns-in-Err-Writing-clause-refused : goal.returns-in-Err-Writing-clause-refused
 returns-in-Err-Writing-clause-refused g c =
-    refuses_from (laws_of c.one_class.ensures.same c.one_class.ensures.no_fault) _ _ None _ _ _ _ _ (returns-in-Err-Writing-clause-report g c) (λ done. absurd (not_done _ c.tell.ensures.status done))
+    refuses_from (laws_of c.one_class.ensures.same c.one_class.ensures.no_fault) _ _ _ _ (returns-in-Err-Writing-clause-outcome g c)
 
 pub returns-in-Err-Writing-clause-complete : goal.returns-in-Err-Writing-clause-complete
-returns-in-Err-Writing-clause-complete g c = complete_from (laws_of c.one_class.ensures.same c.one_class.ensures.no_fault) _ _ _ _ _ _ _ refl (returns-in-Err-Writing-clause-report g c)
+returns-in-Err-Writing-clause-complete g c =
+    complete_from (laws_of c.one_class.ensures.same c.one_class.ensures.no_fault) _ _ _ _ (returns-in-Err-Writing-clause-outcome g c)
 
 pub returns-in-Err-Writing-clause-unwritten : goal.returns-in-Err-Writing-clause-unwritten
 returns-in-Err-Writing-clause-unwritten g c = λ quiet. absurd (loud _ c.tell.ensures.status quiet)
@@ -67,30 +52,25 @@ returns-in-Err-Writing-clause-silent g c = λ quiet. absurd (loud _ c.tell.ensur
 
 -- ---- a put failed
 
-pub returns-in-Ok-clause-report : goal.returns-in-Ok-clause-report
-returns-in-Ok-clause-report g c =
+pub returns-in-Ok-clause-outcome : goal.returns-in-Ok-clause-outcome
+returns-in-Ok-clause-outcome g c =
     let failed = c.in-Err-Output.ensures.output (ap Err c.in-Err-Output.field-0-is) in
-    let goes = since_start _ c.in-Ok.made (Some (Put failed.0)) _ _ _ _ _ _ _ c.in-Ok.ensures.made c.prepare.ensures.contents c.prepare.ensures.writes failed.1 in
-    report_failed _ _ _ _ _ _ _ (Put failed.0) _ c.in-Ok.ensures.made goes (c.in-Err-Output.ensures.output_fault (ap Err c.in-Err-Output.field-0-is)) c.tell-in-Err-Output.ensures.status refl c.tell-in-Err-Output.ensures.put c.tell-in-Err-Output.ensures.whole
+    let goes = since_start (output c.in-Ok.made) (Some (Put failed.0)) _ _ _ _ _ _ _ c.prepare.ensures.contents c.prepare.ensures.writes failed.1 in
+    run_failed _ _ _ _ c.in-Ok.made (Put failed.0) _ c.in-Ok.ensures.made goes (c.in-Err-Output.ensures.output_fault (ap Err c.in-Err-Output.field-0-is)) c.tell-in-Err-Output.ensures.status refl c.tell-in-Err-Output.ensures.put c.tell-in-Err-Output.ensures.whole
 
-pub returns-in-Ok-clause-outside : goal.returns-in-Ok-clause-outside
-returns-in-Ok-clause-outside g c = λ _.
-    let failed = c.in-Err-Output.ensures.output (ap Err c.in-Err-Output.field-0-is) in
-    let goes = since_start _ c.in-Ok.made (Some (Put failed.0)) _ _ _ _ _ _ _ c.in-Ok.ensures.made c.prepare.ensures.contents c.prepare.ensures.writes failed.1 in
-    stands_put _ _ _ _ _ c.in-Ok.ensures.made (put_failed c.in-Ok.made failed.0 _ _ goes)
+pub returns-in-Ok-clause-done : goal.returns-in-Ok-clause-done
+returns-in-Ok-clause-done g c = done_of_run _ _ _ _ (returns-in-Ok-clause-outcome g c)
 
-pub returns-in-Ok-clause-at_most_once : goal.returns-in-Ok-clause-at_most_once
-returns-in-Ok-clause-at_most_once g c =
-    let failed = c.in-Err-Output.ensures.output (ap Err c.in-Err-Output.field-0-is) in
-    let goes = since_start _ c.in-Ok.made (Some (Put failed.0)) _ _ _ _ _ _ _ c.in-Ok.ensures.made c.prepare.ensures.contents c.prepare.ensures.writes failed.1 in
-    writes_once c.in-Ok.made _ _ _ goes
+pub returns-in-Ok-clause-line : goal.returns-in-Ok-clause-line
+returns-in-Ok-clause-line g c = no_usage _ _ _ _ (returns-in-Ok-clause-outcome g c)
 
 pub returns-in-Ok-clause-refused : goal.returns-in-Ok-clause-refused
 returns-in-Ok-clause-refused g c =
-    refuses_from (laws_of c.one_class.ensures.same c.one_class.ensures.no_fault) _ _ None _ _ _ _ _ (returns-in-Ok-clause-report g c) (λ done. absurd (not_done _ c.tell-in-Err-Output.ensures.status done))
+    refuses_from (laws_of c.one_class.ensures.same c.one_class.ensures.no_fault) _ _ _ _ (returns-in-Ok-clause-outcome g c)
 
 pub returns-in-Ok-clause-complete : goal.returns-in-Ok-clause-complete
-returns-in-Ok-clause-complete g c = complete_from (laws_of c.one_class.ensures.same c.one_class.ensures.no_fault) _ _ _ _ _ _ _ refl (returns-in-Ok-clause-report g c)
+returns-in-Ok-clause-complete g c =
+    complete_from (laws_of c.one_class.ensures.same c.one_class.ensures.no_fault) _ _ _ _ (returns-in-Ok-clause-outcome g c)
 
 pub returns-in-Ok-clause-unwritten : goal.returns-in-Ok-clause-unwritten
 returns-in-Ok-clause-unwritten g c = λ quiet. absurd (loud _ c.tell-in-Err-Output.ensures.status quiet)
@@ -103,9 +83,20 @@ returns-in-Ok-clause-silent g c = λ quiet. absurd (loud _ c.tell-in-Err-Output.
 
 -- ---- the run stops before its output
 
-pub returns-clause-report : goal.returns-clause-report
-returns-clause-report g c =
-    report_stopped _ _ _ _ _ _ c.in-Err.stop _ c.in-Err.ensures.stopped (rw (c.prepare.ensures.contents, c.prepare.ensures.writes) refl) c.tell-in-Err.ensures.status c.bytes.ensures c.tell-in-Err.ensures.put c.tell-in-Err.ensures.whole
+pub returns-clause-outcome : goal.returns-clause-outcome
+returns-clause-outcome g c =
+    run_stopped _ _ _ _ c.in-Err.stop _ c.in-Err.ensures.stopped (rw (c.prepare.ensures.contents, c.prepare.ensures.writes) refl) c.tell-in-Err.ensures.status c.bytes.ensures c.tell-in-Err.ensures.put c.tell-in-Err.ensures.whole
+
+pub returns-clause-done : goal.returns-clause-done
+returns-clause-done g c = done_of_run _ _ _ _ (returns-clause-outcome g c)
+
+pub returns-clause-line : goal.returns-clause-line
+returns-clause-line g c = no_usage _ _ _ _ (returns-clause-outcome g c)
+
+pub returns-clause-refused : goal.returns-clause-refused
+returns-clause-refused g c =
+    refuses_from (laws_of c.one_class.ensures.same c.one_class.ensures.no_fault) _ _ _ _ (returns-clause-outcome g c)
 
 pub returns-clause-complete : goal.returns-clause-complete
-returns-clause-complete g c = complete_from (laws_of c.one_class.ensures.same c.one_class.ensures.no_fault) _ _ _ _ _ _ _ refl (returns-clause-report g c)
+returns-clause-complete g c =
+    complete_from (laws_of c.one_class.ensures.same c.one_class.ensures.no_fault) _ _ _ _ (returns-clause-outcome g c)
