@@ -44,11 +44,10 @@ pub fn run<F: Files, O: Sink, E: Sink>(
 ) -> Status
     // All that is promised of a run is said of one outcome: each class that it edits, with its source, its plans and its
     // bytes; what it answers; what it put and wrote, in order; what it told.
-    ensures outcome {
-        let before = moment (files_of F.contents F.writes F.faults files.old)
-            (sink_of O.bytes O.puts O.faults out.old) (sink_of E.bytes E.puts E.faults err.old) in
+    ensures outcome { let before = moment (files_of F.contents F.writes F.faults files.old)
+        (sink_of O.bytes O.puts O.faults out.old) (sink_of E.bytes E.puts E.faults err.old) in
         let after = moment (files_of F.contents F.writes F.faults files.new)
-            (sink_of O.bytes O.puts O.faults out.new) (sink_of E.bytes E.puts E.faults err.new) in
+        (sink_of O.bytes O.puts O.faults out.new) (sink_of E.bytes E.puts E.faults err.new) in
         IsRun (texts words.now) before after result }
 
     // What follows from it, for who wants it by itself.
@@ -93,19 +92,16 @@ enum Fault {
 
 // Puts and writes what was made, and takes no memory.
 fn finish<F: Files, O: Sink>(made: &Made, files: &mut F, out: &mut O) -> Result<(), Fault>
-    ensures done {
-        let old = held (F.contents files.old) (F.writes files.old) (O.bytes out.old) (O.puts out.old) in
+    ensures done { let old = held (F.contents files.old) (F.writes files.old) (O.bytes out.old) (O.puts out.old) in
         let new = held (F.contents files.new) (F.writes files.new) (O.bytes out.new) (O.puts out.new) in
         OnOk result (Goes (output made.now) None old new) }
-    ensures writing {
-        let old = held (F.contents files.old) (F.writes files.old) (O.bytes out.old) (O.puts out.old) in
+    ensures writing { let old = held (F.contents files.old) (F.writes files.old) (O.bytes out.old) (O.puts out.old) in
         let new = held (F.contents files.new) (F.writes files.new) (O.bytes out.new) (O.puts out.new) in
         let write = Write (string_bytes made.now.path) made.now.bytes.items in
         IsErrOf result Fault.Writing → Goes (output made.now) (Some write) old new }
     ensures writing_fault { IsErrOf result Fault.Writing
         → HasFault (F.faults files.old) (F.faults files.new) }
-    ensures output {
-        let old = held (F.contents files.old) (F.writes files.old) (O.bytes out.old) (O.puts out.old) in
+    ensures output { let old = held (F.contents files.old) (F.writes files.old) (O.bytes out.old) (O.puts out.old) in
         let new = held (F.contents files.new) (F.writes files.new) (O.bytes out.new) (O.puts out.new) in
         IsErrOf result Fault.Output →
         (piece : List ℕ) × Goes (output made.now) (Some (Put piece)) old new }

@@ -274,6 +274,108 @@ fn other_members_stay(rt: HostRuntime) -> Result<(), Fail> {
     Ok(())
 }
 
+// The class A whose method `m` calls `A.f()V` so many times and returns.
+fn with_calls<R: AllocGlobal>(rt: &R, calls: u8) -> Result<Vec<u8>, Fail> {
+    let mut class = Vec::new(rt.alloc());
+    let code_len = 3 * calls as u16 + 1;
+    class.extend_from_slice(&SOURCE[..94])?;
+    class.extend_from_slice(&(12 + code_len).to_be_bytes())?;
+    class.extend_from_slice(&SOURCE[96..102])?;
+    class.extend_from_slice(&code_len.to_be_bytes())?;
+    for _ in 0..calls {
+        class.extend_from_slice(&SOURCE[104..107])?;
+    }
+    class.extend_from_slice(&SOURCE[107..])?;
+    Ok(class)
+}
+
+#[test]
+fn several_matches(rt: HostRuntime) -> Result<(), Fail> {
+    let proceed = "class A { method void m() { call A.f { $proceed($$); } } }";
+    for (calls, script, proceeds, out) in [
+        (
+            2,
+            SCRIPT,
+            false,
+            b"edited A.m()V matched 2\nwrote out/A.class\n".as_slice(),
+        ),
+        (
+            12,
+            SCRIPT,
+            false,
+            b"edited A.m()V matched 12\nwrote out/A.class\n".as_slice(),
+        ),
+        (
+            12,
+            proceed,
+            true,
+            b"edited A.m()V matched 12\nwrote out/A.class\n".as_slice(),
+        ),
+    ] {
+        let mut outside = ample(&rt, script)?;
+        let class = with_calls(&rt, calls)?;
+        outside.files.add("./A.class", &class)?;
+        expect(&rt, &mut outside, &["s.je"], Status::Done, out, b"")?;
+        let written = outside.files.content("out/A.class").ok_or("written")?;
+        let edited = if proceeds {
+            class.as_slice()
+        } else {
+            EDITED.as_slice()
+        };
+        assert_eq!(rt; written, edited);
+    }
+    Ok(())
+}
+
+// The class A with a method `void f()` that returns in front of these.
+fn with_another_first<R: AllocGlobal>(rt: &R, class: &[u8]) -> Result<Vec<u8>, Fail> {
+    let mut longer = Vec::new(rt.alloc());
+    let head = class.get(..80).ok_or("a head")?;
+    let method = class.get(82..).ok_or("a method")?;
+    longer.extend_from_slice(head)?;
+    longer.extend_from_slice(&[0, 2, 0, 9, 0, 8, 0, 6, 0, 1, 0, 7, 0, 0, 0, 13])?;
+    longer.extend_from_slice(&[0, 0, 0, 0, 0, 0, 0, 1, 0xb1, 0, 0, 0, 0])?;
+    longer.extend_from_slice(method)?;
+    Ok(longer)
+}
+
+#[test]
+fn the_planned_method_is_the_second(rt: HostRuntime) -> Result<(), Fail> {
+    let mut outside = ample(&rt, SCRIPT)?;
+    let class = with_another_first(&rt, &SOURCE)?;
+    outside.files.add("./A.class", &class)?;
+    let out = b"edited A.m()V matched 1\nwrote out/A.class\n".as_slice();
+    expect(&rt, &mut outside, &["s.je"], Status::Done, out, b"")?;
+    let written = outside.files.content("out/A.class").ok_or("written")?;
+    let edited = with_another_first(&rt, &EDITED)?;
+    assert_eq!(rt; written, edited.as_slice());
+    Ok(())
+}
+
+#[test]
+fn what_stands_at_the_out_path_is_replaced(rt: HostRuntime) -> Result<(), Fail> {
+    let once = b"edited A.m()V matched 1\nwrote out/A.class\n".as_slice();
+    let twice =
+        b"edited A.m()V matched 1\nwrote out/A.class\nedited A.m()V matched 1\nwrote out/A.class\n";
+    for there in [
+        b"other bytes".as_slice(),
+        SOURCE.as_slice(),
+        EDITED.as_slice(),
+    ] {
+        let mut outside = ample(&rt, SCRIPT)?;
+        outside.files.add("out/A.class", there)?;
+        expect(&rt, &mut outside, &["s.je"], Status::Done, once, b"")?;
+        let written = outside.files.content("out/A.class").ok_or("written")?;
+        assert_eq!(rt; written, EDITED.as_slice());
+        // The same run once more, over what the first one left.
+        expect(&rt, &mut outside, &["s.je"], Status::Done, twice, b"")?;
+        let written = outside.files.content("out/A.class").ok_or("written again")?;
+        assert_eq!(rt; written, EDITED.as_slice());
+        assert_eq!(rt; outside.files.writes(), 2);
+    }
+    Ok(())
+}
+
 #[test]
 fn nothing_matched(rt: HostRuntime) -> Result<(), Fail> {
     let mut outside = ample(&rt, "class A { method void m() { call A.h { } } }")?;
