@@ -1,4 +1,4 @@
--- The methods whose code can be edited so far, by their instructions.
+-- Serves private functions: the methods whose code can be edited so far, by their instructions.
 use Rattle.std.specs.Prelude.{◌≡◌, ◌≢◌, ℕ, List, [], ◌∷◌, ◌++◌, Option, Some, slice_get, codes, IsBitSet}
 use Rattle.std.specs.List.{AllByRecursion}
 use Rattle.je_consts.specs.declared.place.Place.{Place}

@@ -1,4 +1,4 @@
--- A method's instructions, of which some give way to blocks.
+-- Serves private functions: a method's instructions, of which some give way to blocks.
 use Rattle.std.specs.Prelude.{◌≡◌, List, [], ◌∷◌, ◌++◌, Option, Some, None, map}
 use Rattle.std.specs.List.{AllZip}
 use Rattle.std.specs.Option.{option_map}

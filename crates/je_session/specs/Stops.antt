@@ -1,4 +1,4 @@
--- Why an edit stops where a layer below does.
+-- Serves private functions: why an edit stops where a layer below does.
 use Rattle.je_instr.specs.declared.stop.CodeStop.{CodeStop}
 use Rattle.je_instr.specs.declared.stop.CodeStop.TheVariants as code
 use Rattle.je_session.specs.declared.stop.EditStop.{EditStop}
