@@ -11,3 +11,5 @@ pub mod Same
 pub mod Free
 pub mod ReadLemmas
 pub mod OneAnswer
+pub mod SoundParts
+pub mod Grown

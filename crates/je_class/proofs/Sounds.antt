@@ -13,13 +13,13 @@ abbrev Sound : List Place → List Part → Type 0
 Sound consts parts = AllByRecursion (IsSoundPart consts) parts
 
 -- the four tables of a class file
-record SoundTables (c : Class) : Type 0 where
-  interfaces : Sound c.consts (table_parts interface_parts c.interfaces)
-  fields : Sound c.consts (table_parts field_parts c.fields)
-  methods : Sound c.consts (table_parts method_parts c.methods)
-  attributes : Sound c.consts (table_parts attribute_parts c.attributes)
+pub record SoundTables (c : Class) : Type 0 where
+  pub interfaces : Sound c.consts (table_parts interface_parts c.interfaces)
+  pub fields : Sound c.consts (table_parts field_parts c.fields)
+  pub methods : Sound c.consts (table_parts method_parts c.methods)
+  pub attributes : Sound c.consts (table_parts attribute_parts c.attributes)
 
-sound_tables : (c : Class) → IsSound c → SoundTables c
+pub sound_tables : (c : Class) → IsSound c → SoundTables c
 sound_tables c sound =
     let h = sound.parts in
     let P = IsSoundPart c.consts in

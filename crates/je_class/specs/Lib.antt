@@ -8,3 +8,5 @@ pub mod Summed
 pub mod Words
 pub mod Signatures
 pub mod Reading
+pub mod Sound
+pub mod Grown

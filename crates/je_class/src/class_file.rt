@@ -1,10 +1,12 @@
 //! A class file in memory.
 
 ghost use Rattle.std.specs.Prelude.{◌≡◌, ◌≢◌, ◌^◌, ◌<◌, length, Some, IfSome, IfNone, IfOk, All, slice_get, IsSomeAnd};
+ghost use Rattle.je_consts.specs.Adding.{Keeps};
 ghost use Rattle.je_consts.specs.Pool.{class_at};
-ghost use Rattle.je_class.specs.Class.{IsNamed, IsMethodAt, with_attribute, with_method_attribute, changed_at};
+ghost use Rattle.je_class.specs.Class.{IsNamed, IsMethodAt, with_attribute, with_method_attribute, with_code, changed_at};
 ghost use Rattle.je_class.specs.FileParts.{IsSound};
 ghost use Rattle.je_class.specs.InMemory.{class_of_parts};
+ghost use Rattle.je_class.specs.Sound.{HasSoundParts};
 ghost use Rattle.je_class.specs.Summed.{IsSummary};
 
 use crate::copying::copy_parts;
@@ -55,7 +57,8 @@ impl ClassFile {
 
     /// What holds of every class file in memory: each number fits its bytes, and each index names what it has to.
     pub fn sound(&self)
-        ensures { IsSound self.now }
+        ensures sound { IsSound self.now }
+        ensures parts { HasSoundParts self.now }
     {
         let _ = self.parts();
     }
@@ -192,6 +195,24 @@ impl ClassFile {
         ensures { self.new ≡ with_method_attribute method attribute bytes self.old }
     {
         set_attribute(&mut self.parts.methods, method, attribute, bytes);
+    }
+
+    /// Puts other bytes, fewer than 4,294,967,296, into an attribute of a method, as `set_method_attribute` does, and a
+    /// constant pool that has grown out of the class's own in its place.
+    ///
+    /// Such a pool is a copy of `consts` to which constants were added: each index that was there names what it named.
+    pub fn set_code(&mut self, method: usize, attribute: usize, bytes: Items<u8>, consts: Consts)
+        requires is_there { IsSomeAnd (slice_get self.old.methods method)
+            (λ m. attribute < length m.attributes) }
+        requires fits { length bytes < 2 ^ 32 }
+        requires grown { Keeps self.old.consts consts }
+        ensures { self.new ≡ with_code method attribute bytes consts self.old }
+    {
+        // That the pool is one, for the class file's own invariant.
+        let _ = consts.count();
+
+        set_attribute(&mut self.parts.methods, method, attribute, bytes);
+        self.parts.consts = consts;
     }
 }
 

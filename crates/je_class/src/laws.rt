@@ -1,10 +1,14 @@
-//! A law of the bytes, over all class files.
+//! Laws of the bytes and of what indexes name, over all class files.
 
 ghost use Rattle.std.specs.Prelude.{◌≡◌, ℕ, ◌≤◌, List, length};
+ghost use Rattle.je_consts.specs.declared.place.Place.{Place};
+ghost use Rattle.je_consts.specs.Adding.{Keeps};
 ghost use Rattle.je_class.specs.declared.fault.ClassFault.{ClassFault};
 ghost use Rattle.je_class.specs.Class.{Class};
 ghost use Rattle.je_class.specs.ClassBytes.{ClassBytes};
 ghost use Rattle.je_class.specs.Faults.{FirstFault};
+ghost use Rattle.je_class.specs.FileParts.{IsSound};
+ghost use Rattle.je_class.specs.Grown.{NamesStay};
 
 use je_consts::one_pool;
 
@@ -20,3 +24,8 @@ pub fn one_class()
     // The law of the layer below that the proof stands on.
     one_pool();
 }
+
+/// What the indexes of a class file name stays as it is while its constant pool grows.
+pub fn names_stay()
+    ensures { (c : Class) (new : List Place) → IsSound c → Keeps c.consts new → NamesStay c new }
+{}

@@ -21,7 +21,7 @@ mod writing;
 
 pub use class_file::ClassFile;
 pub use fault::{ClassFault, MOST_BYTES};
-pub use laws::one_class;
+pub use laws::{names_stay, one_class};
 pub use member::{Attribute, Member};
 pub use reading::read_class;
 pub use writing::write_class;

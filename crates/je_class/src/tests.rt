@@ -1,6 +1,7 @@
 use super::*;
 use je_base::Text;
 use je_desc::Summary;
+use sqlite_items::Items;
 use std::test::*;
 
 /// The class `A` with one static method `m`, which calls `A.f` and returns.
@@ -74,6 +75,28 @@ fn comes_back(rt: &HostRuntime, bytes: &[u8]) -> Result<bool, Fail> {
     Ok(written.as_slice() == bytes && again.as_slice() == bytes)
 }
 
+/// What class `A` is written as with another text, its last constant, and three bytes for the code of its method.
+fn with_code(rt: &HostRuntime) -> Result<Vec<u8>, Fail> {
+    let mut class = class_of(rt, &BYTES)?;
+    let mut consts = class.consts().copy()?;
+    if consts.add_text(&text(rt, b"g")?).ok() != Some(11) {
+        return Err("index 11".into());
+    }
+    let [method] = class.methods() else {
+        return Err("one method".into());
+    };
+    if method.attributes.is_empty() {
+        return Err("an attribute".into());
+    }
+    class.set_code(
+        0,
+        0,
+        Items::from_slice(rt.alloc(), b"\x07\x08\x09")?,
+        consts,
+    );
+    Ok(write_class(rt.alloc(), &class)?)
+}
+
 fn summary_of(rt: &HostRuntime, bytes: &[u8]) -> Result<Summary, Fail> {
     let class = class_of(rt, bytes)?;
     Ok(class.summary()?)
@@ -129,6 +152,17 @@ fn one_byte_set(rt: HostRuntime) -> Result<(), Fail> {
 fn written_and_copied(rt: HostRuntime) -> Result<(), Fail> {
     assert!(rt; comes_back(&rt, &BYTES)?);
     assert!(rt; comes_back(&rt, &with_tables(&rt)?)?);
+    Ok(())
+}
+
+#[test]
+fn code_set_with_a_grown_pool(rt: HostRuntime) -> Result<(), Fail> {
+    let mut wanted = Vec::from_slice(rt.alloc(), part(&with_byte(9, 12), 0, 70)?)?;
+    wanted.extend_from_slice(b"\x01\x00\x01g")?;
+    wanted.extend_from_slice(part(&BYTES, 70, 92)?)?;
+    wanted.extend_from_slice(b"\x00\x00\x00\x03\x07\x08\x09")?;
+    wanted.extend_from_slice(part(&BYTES, 112, 114)?)?;
+    assert_eq!(rt; with_code(&rt)?, wanted);
     Ok(())
 }
 

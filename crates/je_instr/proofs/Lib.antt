@@ -7,3 +7,4 @@ pub mod Steps
 pub mod Programs
 pub mod Opcodes
 pub mod Contents
+pub mod Grown

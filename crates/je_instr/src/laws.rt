@@ -5,7 +5,7 @@ ghost use Rattle.std.specs.List.{AllByRecursion, AllZip};
 ghost use Rattle.je_consts.specs.declared.constant.Const.TheVariants as entry;
 ghost use Rattle.je_consts.specs.declared.constant.MemberTag as consts;
 ghost use Rattle.je_consts.specs.declared.place.Place.{Place};
-ghost use Rattle.je_consts.specs.Adding.{NamesMember};
+ghost use Rattle.je_consts.specs.Adding.{Keeps, NamesMember};
 ghost use Rattle.je_consts.specs.Pool.{const_at, class_at, text_at, NamesAndTypes, IsPool};
 ghost use Rattle.je_instr.specs.declared.instr.Instr.{Instr};
 ghost use Rattle.je_instr.specs.Content.{Content, Class, Str, Member, NameAndType, MethodHandle, MethodType, InvokeDynamic, sort_of, content_at};
@@ -70,6 +70,16 @@ pub fn constants_mean()
     ensures dynamic { (consts : List Place) (i b m : ℕ) (name descriptor : List ℕ) →
         const_at consts i ≡ Some (entry.InvokeDynamic b m) → NamesAndTypes consts m name descriptor
         → content_at consts i ≡ Some (InvokeDynamic b name descriptor) }
+{}
+
+/// What the constants of a pool say, and what the instructions are that name them, stays as it is while the pool grows.
+pub fn contents_stay()
+    ensures content { (old new : List Place) → Keeps old new → (i : ℕ) (content : Content) →
+        content_at old i ≡ Some content → content_at new i ≡ Some content }
+    ensures resolves { (old new : List Place) → Keeps old new → (i : Instr) (o : Operation) →
+        Resolves old i o → Resolves new i o }
+    ensures operations { (old new : List Place) → Keeps old new → (is : List Instr) (a : List Operation) →
+        AllZip (Resolves old) is a → AllZip (Resolves new) is a }
 {}
 
 /// What an instruction of a program is, by its opcode (JVMS 6.5).

@@ -18,7 +18,7 @@ pub use decoding::decode;
 pub use encoding::encode;
 pub use instr::Instr;
 pub use laws::{
-    constants_mean, longer_bounds, one_program, opcodes_mean, two_calls_are_shown,
+    constants_mean, contents_stay, longer_bounds, one_program, opcodes_mean, two_calls_are_shown,
     views_begin_views,
 };
 pub use stop::CodeStop;
