@@ -15,3 +15,4 @@ pub mod ClassStops
 pub mod IndexMap
 pub mod Outputs
 pub mod OneRefusal
+pub mod Grown

@@ -25,7 +25,7 @@ mod tokens;
 mod words;
 
 pub use edit::edit_method;
-pub use laws::{one_program, one_refusal};
+pub use laws::{one_program, one_refusal, programs_stay};
 pub use parse::parse_script;
 pub use plan::{Fragment, MethodPlan, Rule, Script};
 pub use session::run;
