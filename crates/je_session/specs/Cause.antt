@@ -38,28 +38,34 @@ pub data Cause : Type 0 where
 
 -- the refusal is that of the bytes of a script's class
 abbrev pub IsClassRefusal : Script → List ℕ → Refusal → Type 0
-IsClassRefusal script bytes (BadClass name fault) = (script.class_name ≡ name) × FirstFault bytes fault
+IsClassRefusal script bytes (BadClass name fault) =
+    (script.class_name ≡ name) × FirstFault bytes fault
 IsClassRefusal script bytes (WrongName name found) =
     (script.class_name ≡ name) × (found ≢ name)
-    × (source : Class) × IsClassFile bytes source × (class_at source.consts source.this_class ≡ Some found)
+    × (source : Class) × IsClassFile bytes source
+    × (class_at source.consts source.this_class ≡ Some found)
 IsClassRefusal script bytes NotYetClass =
-    (source : Class) × IsClassFile bytes source × (class_at source.consts source.this_class ≡ Some script.class_name)
+    (source : Class) × IsClassFile bytes source
+    × (class_at source.consts source.this_class ≡ Some script.class_name)
     × ((source.major ≢ 49) ⊎ (MethodForm source script.plan.name → ⊥))
 IsClassRefusal script bytes _ = ⊥
 
 -- the script is read, and the refusal is that of the bytes at its class's place
 abbrev pub RefusesClass : List (List ℕ) → Contents → Refusal → Type 0
 RefusesClass words files refusal =
-    (script : Script) × (bytes : List ℕ) × ReadsScript words files script × (get files (class_path script.class_name) ≡ Some bytes)
+    (script : Script) × (bytes : List ℕ) × ReadsScript words files script
+    × (get files (class_path script.class_name) ≡ Some bytes)
     × IsClassRefusal script bytes refusal
 
 -- the refusal is that of these words and files
 abbrev pub IsRefusal : List (List ℕ) → Contents → Refusal → Type 0
 IsRefusal words files (NoScript path) = IsLine words path × (get files path ≡ None)
 IsRefusal words files NotYetScript =
-    (path : List ℕ) × (text : List ℕ) × IsLine words path × (get files path ≡ Some text) × ((script : Script) → IsScript text script → ⊥)
+    (path : List ℕ) × (text : List ℕ) × IsLine words path × (get files path ≡ Some text)
+    × ((script : Script) → IsScript text script → ⊥)
 IsRefusal words files (NoClass name) =
-    (script : Script) × ReadsScript words files script × (script.class_name ≡ name) × (get files (class_path name) ≡ None)
+    (script : Script) × ReadsScript words files script × (script.class_name ≡ name)
+    × (get files (class_path name) ≡ None)
 IsRefusal words files (BadClass name fault) = RefusesClass words files (BadClass name fault)
 IsRefusal words files (WrongName name found) = RefusesClass words files (WrongName name found)
 IsRefusal words files NotYetClass = RefusesClass words files NotYetClass
@@ -67,13 +73,16 @@ IsRefusal words files NotYetClass = RefusesClass words files NotYetClass
 -- where a run reads: the path of the script, or of its class
 abbrev pub IsReadPath : List (List ℕ) → Option Contents → List ℕ → Type 0
 IsReadPath words files path =
-    IsLine words path ⊎ ((script : Script) × IfSome files (λ before. ReadsScript words before script) × (path ≡ class_path script.class_name))
+    IsLine words path
+    ⊎ ((script : Script) × IfSome files (λ before. ReadsScript words before script)
+    × (path ≡ class_path script.class_name))
 
--- What the cause says of the words, of the files as they were told before, and of the faults of the files. Want of memory
--- shows nothing.
+-- What the cause says of the words, of the files as they were told before, and of the faults of the
+-- files. Want of memory shows nothing.
 abbrev pub Explains : List (List ℕ) → Option Contents → Type 0 → Cause → Type 0
 Explains words files files_fault NoLine = (path : List ℕ) → IsLine words path → ⊥
-Explains words files files_fault (Refuses refusal) = IfSome files (λ before. IsRefusal words before refusal)
+Explains words files files_fault (Refuses refusal) =
+    IfSome files (λ before. IsRefusal words before refusal)
 Explains words files files_fault (ReadingFailed path) = files_fault × IsReadPath words files path
 Explains words files files_fault NoMemory = Unit {0}
 
@@ -92,13 +101,17 @@ abbrev pub refusal_line : Refusal → List ℕ
 refusal_line (NoScript path) = codes "no script " ++ (path ++ line_feed)
 refusal_line NotYetScript = codes "not yet script" ++ line_feed
 refusal_line (NoClass name) = codes "no class " ++ (shown name ++ line_feed)
-refusal_line (BadClass name fault) = codes "bad class " ++ (shown name ++ (codes " " ++ (fault_words fault ++ line_feed)))
-refusal_line (WrongName name found) = codes "wrong name " ++ (shown name ++ (codes " found " ++ (shown found ++ line_feed)))
+refusal_line (BadClass name fault) =
+    codes "bad class " ++ (shown name ++ (codes " " ++ (fault_words fault ++ line_feed)))
+refusal_line (WrongName name found) =
+    codes "wrong name " ++ (shown name ++ (codes " found " ++ (shown found ++ line_feed)))
 refusal_line NotYetClass = codes "not yet class" ++ line_feed
 
 -- the line of a run that stopped
 abbrev pub line_of : Cause → List ℕ
-line_of NoLine = codes "usage: classedit [--path DIRS] [--out DIR] [--mode edit|check|list|gen] SCRIPT" ++ line_feed
+line_of NoLine =
+    codes "usage: classedit [--path DIRS] [--out DIR] [--mode edit|check|list|gen] SCRIPT"
+    ++ line_feed
 line_of (Refuses refusal) = refusal_line refusal
 line_of (ReadingFailed path) = codes "outside fault: reading " ++ (path ++ line_feed)
 line_of NoMemory = codes "out of memory" ++ line_feed
@@ -109,14 +122,17 @@ line_of NoMemory = codes "out of memory" ++ line_feed
 abbrev pub IsQuiet : Status → Type 0
 IsQuiet answer = (answer ≡ status.Refused) ⊎ (answer ≡ status.Usage) ⊎ (answer ≡ status.Memory)
 
--- where the refusal is that of these words and files, the run is not done and the words are no faulty command line
+-- where the refusal is that of these words and files, the run is not done and the words are no
+-- faulty command line
 abbrev pub IsRefused : List (List ℕ) → Option Contents → Refusal → Status → Type 0
 IsRefused words files refusal answer =
-    IfSome files (λ before. IsRefusal words before refusal → (answer ≡ status.Done → ⊥) × (answer ≡ status.Usage → ⊥))
+    IfSome files (λ before. IsRefusal words before refusal → (answer ≡ status.Done → ⊥)
+    × (answer ≡ status.Usage → ⊥))
 
--- Where script and class are read and nothing failed, the run is done, or memory ran out. Sizes are no premise so far: an
--- edit makes nothing larger.
-abbrev pub IsComplete : List (List ℕ) → Option Contents → Type 0 → Type 0 → Script → Class → Status → Type 0
+-- Where script and class are read and nothing failed, the run is done, or memory ran out. Sizes are
+-- no premise so far: an edit makes nothing larger.
+abbrev pub IsComplete : List (List ℕ) → Option Contents → Type 0 → Type 0 → Script → Class → Status
+    → Type 0
 IsComplete words files files_fault out_fault script source answer =
     IfSome files (λ before. ReadsScript words before script → ReadsClass before script source
     → (files_fault → ⊥) → (out_fault → ⊥) → (answer ≡ status.Done) ⊎ (answer ≡ status.Memory))
@@ -138,22 +154,28 @@ Tells cause stop = TellsCause cause stop ⊎ TellsCause NoMemory stop
 
 -- the stop tells a cause that explains it
 abbrev pub Stopped : List (List ℕ) → Option Contents → Type 0 → Stop → Type 0
-Stopped words files files_fault stop = (cause : Cause) × Explains words files files_fault cause × TellsCause cause stop
+Stopped words files files_fault stop =
+    (cause : Cause) × Explains words files files_fault cause × TellsCause cause stop
 
 -- a stop at the bytes of a script's class: for want of memory, or with a refusal of them
 abbrev pub StoppedAtBytes : Script → List ℕ → Stop → Type 0
 StoppedAtBytes script bytes stop =
-    TellsCause NoMemory stop ⊎ ((refusal : Refusal) × IsClassRefusal script bytes refusal × Tells (Refuses refusal) stop)
+    TellsCause NoMemory stop
+    ⊎ ((refusal : Refusal) × IsClassRefusal script bytes refusal × Tells (Refuses refusal) stop)
 
 -- what the cause of a stop at the class of a script says
 abbrev pub ExplainsAtClass : Script → Option Contents → Type 0 → Cause → Type 0
 ExplainsAtClass script files files_fault (Refuses (NoClass name)) =
     (script.class_name ≡ name) × IfSome files (λ before. get before (class_path name) ≡ None)
 ExplainsAtClass script files files_fault (Refuses (BadClass name fault)) =
-    IfSome files (λ before. (bytes : List ℕ) × (get before (class_path script.class_name) ≡ Some bytes) × IsClassRefusal script bytes (BadClass name fault))
-ExplainsAtClass script files files_fault (ReadingFailed path) = files_fault × (path ≡ class_path script.class_name)
+    IfSome files (λ before. (bytes : List ℕ)
+    × (get before (class_path script.class_name) ≡ Some bytes)
+    × IsClassRefusal script bytes (BadClass name fault))
+ExplainsAtClass script files files_fault (ReadingFailed path) =
+    files_fault × (path ≡ class_path script.class_name)
 ExplainsAtClass script files files_fault NoMemory = Unit {0}
 ExplainsAtClass script files files_fault _ = ⊥
 
 abbrev pub StoppedAtClass : Script → Option Contents → Type 0 → Stop → Type 0
-StoppedAtClass script files files_fault stop = (cause : Cause) × ExplainsAtClass script files files_fault cause × TellsCause cause stop
+StoppedAtClass script files files_fault stop =
+    (cause : Cause) × ExplainsAtClass script files files_fault cause × TellsCause cause stop

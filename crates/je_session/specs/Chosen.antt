@@ -10,7 +10,8 @@ use Rattle.je_session.specs.declared.plan.Rule.{Rule}
 
 -- a rule for calls fits a call of its method in its class
 abbrev pub fits : Operation → Rule → Bool
-fits (InvokeStatic (Member tag class name descriptor)) rule = is_same_text rule.class_name class && is_same_text rule.member name
+fits (InvokeStatic (Member tag class name descriptor)) rule =
+    is_same_text rule.class_name class && is_same_text rule.member name
 fits _ rule = false
 
 -- the first rule that fits
@@ -20,9 +21,11 @@ chosen_rule rules operation = find (fits operation) rules
 -- the fragment that takes the place of the instruction at an index, if a rule chooses it
 abbrev pub chosen_at : Program → List Rule → ℕ → Option Fragment
 chosen_at program rules at =
-    option_and_then (λ operation. option_map (λ rule. rule.fragment) (chosen_rule rules operation)) (slice_get program.operations at)
+    option_and_then (λ operation. option_map (λ rule. rule.fragment) (chosen_rule rules operation))
+    (slice_get program.operations at)
 
--- How many expressions the rules choose. Each instruction counts, which is right while the one return of a method is its
--- last instruction: then each can be reached.
+-- How many expressions the rules choose. Each instruction counts, which is right while the one
+-- return of a method is its last instruction: then each can be reached.
 abbrev pub matched : Program → List Rule → ℕ
-matched program rules = count_by (λ operation. is_some (chosen_rule rules operation)) program.operations
+matched program rules =
+    count_by (λ operation. is_some (chosen_rule rules operation)) program.operations

@@ -14,7 +14,8 @@ use Rattle.je_session.specs.Kept.{Kept}
 
 -- ---- one plan
 
--- a plan, the class before it and the class after it, and the number of expressions that its rules chose
+-- a plan, the class before it and the class after it, and the number of expressions that its rules
+-- chose
 pub record PlanEdit : Type 0 where
   pub plan : MethodPlan
   pub before : Class
@@ -22,9 +23,11 @@ pub record PlanEdit : Type 0 where
   pub matched : ℕ
 
 abbrev pub plan_edit : MethodPlan → Class → Class → ℕ → PlanEdit
-plan_edit plan before after matched = record { plan = plan; before = before; after = after; matched = matched }
+plan_edit plan before after matched =
+    record { plan = plan; before = before; after = after; matched = matched }
 
--- What the edit of a plan owes, all of it said of the same two classes and the same two programs of the planned method.
+-- What the edit of a plan owes, all of it said of the same two classes and the same two programs of
+-- the planned method.
 pub record IsPlanEdit (p : PlanEdit) : Type 0 where
   pub method : EditedMethod p.before p.after p.plan
   -- it does what the plan says of the method before it, and nothing else
@@ -34,7 +37,8 @@ pub record IsPlanEdit (p : PlanEdit) : Type 0 where
   -- all else of the class is as it was
   pub kept : Kept p.before (p.plan ∷ []) p.after
   pub count : p.matched ≡ matched method.old_program p.plan.rules
-  -- what stands in the place of an expression takes no more stack and no more local variables so far
+  -- what stands in the place of an expression takes no more stack and no more local variables so
+  -- far
   pub max_stack : method.of_new.code.max_stack ≡ method.of_old.code.max_stack
   pub max_locals : method.of_new.code.max_locals ≡ method.of_old.code.max_locals
 
@@ -45,7 +49,8 @@ Leads source (p ∷ plans) edited = (p.before ≡ source) × IsPlanEdit p × Lea
 
 -- ---- one class
 
--- the class's name, what it was, what each plan did in order, what it is, and the bytes that are written of it
+-- the class's name, what it was, what each plan did in order, what it is, and the bytes that are
+-- written of it
 pub record ClassEdit : Type 0 where
   pub name : List ℕ
   pub source : Class
@@ -56,8 +61,8 @@ pub record ClassEdit : Type 0 where
 abbrev pub plans_of : ClassEdit → List MethodPlan
 plans_of e = map (λ p. p.plan) e.plans
 
--- The edit is of the class that a script plans, of what the files held of it, where they tell that. All is said of the
--- same source, plans, class and bytes.
+-- The edit is of the class that a script plans, of what the files held of it, where they tell that.
+-- All is said of the same source, plans, class and bytes.
 pub record IsEditOf (files : Option Contents) (script : Script) (e : ClassEdit) : Type 0 where
   pub name : e.name ≡ script.class_name
   pub planned : plans_of e ≡ script.plan ∷ []

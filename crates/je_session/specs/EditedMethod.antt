@@ -7,7 +7,8 @@ use Rattle.je_session.specs.declared.plan.MethodPlan.{MethodPlan}
 use Rattle.je_session.specs.Kept.{IsPlanOf}
 use Rattle.je_session.specs.ProgramOf.{ProgramOf}
 
--- It stands at one place of both classes, and has a program in each. What is said of an edit is said of these.
+-- It stands at one place of both classes, and has a program in each. What is said of an edit is
+-- said of these.
 pub record EditedMethod (before after : Class) (plan : MethodPlan) : Type 0 where
   pub at : ℕ
   pub is_planned : IsPlanOf before at plan

@@ -26,7 +26,8 @@ HoldsNone (Some files) path = get files path ≡ None
 -- more than so many bytes lie at the path
 abbrev pub HoldsMore : Option Contents → List ℕ → ℕ → Type 0
 HoldsMore None path most = Unit {0}
-HoldsMore (Some files) path most = (bytes : List ℕ) × (get files path ≡ Some bytes) × (most < length bytes)
+HoldsMore (Some files) path most =
+    (bytes : List ℕ) × (get files path ≡ Some bytes) × (most < length bytes)
 
 -- where the class of a name is read
 abbrev pub class_path : List ℕ → List ℕ
@@ -46,7 +47,8 @@ pub record IsClassFile (bytes : List ℕ) (source : Class) : Type 0 where
   pub short : length bytes ≤ 16777216
   pub bytes_are : ClassBytes bytes source
 
--- A class file of at most 16,777,216 bytes and of version 49, of the script's class, whose planned method has the form.
+-- A class file of at most 16,777,216 bytes and of version 49, of the script's class, whose planned
+-- method has the form.
 pub record ClassForm (script : Script) (bytes : List ℕ) (source : Class) : Type 0 where
   pub short : length bytes ≤ 16777216
   pub bytes_are : ClassBytes bytes source

@@ -21,7 +21,8 @@ abbrev pub IsPlanOf : Class → ℕ → MethodPlan → Type 0
 IsPlanOf c at plan = IsMethodAt c plan.name (codes "()V") at
 
 abbrev pub IsPlanned : Class → List MethodPlan → ℕ → Type 0
-IsPlanned c plans at = (plan : MethodPlan) × (k : ℕ) × (slice_get plans k ≡ Some plan) × IsPlanOf c at plan
+IsPlanned c plans at =
+    (plan : MethodPlan) × (k : ℕ) × (slice_get plans k ≡ Some plan) × IsPlanOf c at plan
 
 -- ---- constants
 
@@ -43,31 +44,37 @@ RefersTo (const.MethodType descriptor) k = descriptor ≡ k
 RefersTo (const.InvokeDynamic bootstrap member) k = member ≡ k
 RefersTo _ k = ⊥
 
--- The code names the constant of this index: an instruction does, a handler whose catch type it is (JVMS 4.7.3), or an
--- attribute of the code whose name it is. A frame's class stands in the bytes of such an attribute, of which there are
--- none so far.
+-- The code names the constant of this index: an instruction does, a handler whose catch type it is
+-- (JVMS 4.7.3), or an attribute of the code whose name it is. A frame's class stands in the bytes
+-- of such an attribute, of which there are none so far.
 pub data NamedByCode (code : Code) (instrs : List Instr) : ℕ → Type 0 where
-  by_instr : (k at : ℕ) (i : Instr) → slice_get instrs at ≡ Some i → NamesConst k i → NamedByCode code instrs k
+  by_instr : (k at : ℕ) (i : Instr) → slice_get instrs at ≡ Some i → NamesConst k i
+      → NamedByCode code instrs k
   by_handler : (k at : ℕ) (h : RawHandler) → slice_get code.handlers at ≡ Some h → h.catch_const ≡ k
       → NamedByCode code instrs k
   by_attribute : (k at : ℕ) (a : AttributeInfo) → slice_get code.attributes at ≡ Some a → a.name ≡ k
       → NamedByCode code instrs k
 
--- The code names the constant, or names one behind the first `before` that leads to it through such ones.
-pub data IsNeeded (consts : List Place) (before : ℕ) (code : Code) (instrs : List Instr) : ℕ → Type 0 where
+-- The code names the constant, or names one behind the first `before` that leads to it through such
+-- ones.
+pub data IsNeeded (consts : List Place) (before : ℕ) (code : Code) (instrs : List Instr) : ℕ
+    → Type 0 where
   by_code : (k : ℕ) → NamedByCode code instrs k → IsNeeded consts before code instrs k
-  by_const : (j k : ℕ) (c : Const) → before < j → IsNeeded consts before code instrs j → const_at consts j ≡ Some c
+  by_const : (j k : ℕ) (c : Const) → before < j → IsNeeded consts before code instrs j
+      → const_at consts j ≡ Some c
       → RefersTo c k → IsNeeded consts before code instrs k
 
--- Constants stay at their indexes. Each entry that is added is needed by the code of a planned method, and no other index
--- holds this entry. Entries are compared and not what they say in the end: a class file may hold equal texts twice, and
--- then two different entries that name them say the same.
+-- Constants stay at their indexes. Each entry that is added is needed by the code of a planned
+-- method, and no other index holds this entry. Entries are compared and not what they say in the
+-- end: a class file may hold equal texts twice, and then two different entries that name them say
+-- the same.
 pub record KeepsConsts (old : Class) (plans : List MethodPlan) (new : Class) : Type 0 where
   pub added : (more : List Place) × (new.consts ≡ old.consts ++ more)
   pub needed : (k : ℕ) (c : Const) → length old.consts < k → const_at new.consts k ≡ Some c
       → (at : ℕ) × IsPlanned old plans at
       × (m : Member) × (slice_get new.methods at ≡ Some m)
-      × (program : Program) × (p : ProgramOf new m program) × IsNeeded new.consts (length old.consts) p.code p.instrs k
+      × (program : Program) × (p : ProgramOf new m program)
+      × IsNeeded new.consts (length old.consts) p.code p.instrs k
   pub new_entry : (k j : ℕ) (c : Const) → length old.consts < k
       → const_at new.consts k ≡ Some c → const_at new.consts j ≡ Some c → j ≡ k
 
@@ -77,7 +84,8 @@ pub record KeepsConsts (old : Class) (plans : List MethodPlan) (new : Class) : T
 abbrev pub KeepsAttribute : List Place → Attribute → Attribute → Type 0
 KeepsAttribute consts old new = (new ≡ old) ⊎ (IsCode consts old × (new.name ≡ old.name))
 
--- The Code has the tables of the old one, of which there are none so far. Below version 50 it has no StackMapTable.
+-- The Code has the tables of the old one, of which there are none so far. Below version 50 it has
+-- no StackMapTable.
 pub record HasTables (consts : List Place) (m : Member) : Type 0 where
   pub at : ℕ
   pub attribute : Attribute
@@ -95,10 +103,12 @@ pub record KeepsButCode (old new : Class) (m n : Member) : Type 0 where
   pub tables : HasTables new.consts n
 
 -- A method without a plan is as it was, and so is one whose plan chooses nothing.
-pub record KeepsMethod (old : Class) (plans : List MethodPlan) (new : Class) (at : ℕ) (m n : Member) : Type 0 where
+pub record KeepsMethod (old : Class) (plans : List MethodPlan) (new : Class) (at : ℕ)
+    (m n : Member) : Type 0 where
   pub unplanned : (IsPlanned old plans at → ⊥) → n ≡ m
   pub planned : IsPlanned old plans at → KeepsButCode old new m n
-  pub unchosen : (k : ℕ) (plan : MethodPlan) (program : Program) → slice_get plans k ≡ Some plan → IsPlanOf old at plan
+  pub unchosen : (k : ℕ) (plan : MethodPlan) (program : Program) → slice_get plans k ≡ Some plan
+      → IsPlanOf old at plan
       → ProgramOf old m program → matched program plan.rules ≡ 0 → n ≡ m
 
 -- All but the planned methods' code is as it was.
@@ -112,13 +122,14 @@ pub record Kept (old : Class) (plans : List MethodPlan) (new : Class) : Type 0 w
   pub interfaces : new.interfaces ≡ old.interfaces
   pub fields : new.fields ≡ old.fields
   pub count : length new.methods ≡ length old.methods
-  pub methods : (at : ℕ) (m n : Member) → slice_get old.methods at ≡ Some m → slice_get new.methods at ≡ Some n → KeepsMethod old plans new at m n
+  pub methods : (at : ℕ) (m n : Member) → slice_get old.methods at ≡ Some m
+      → slice_get new.methods at ≡ Some n → KeepsMethod old plans new at m n
   pub attributes : new.attributes ≡ old.attributes
 
 -- ---- the methods that can be edited so far
 
--- A method of this name that is static, has one attribute, a Code without handlers and attributes, and whose instructions
--- are any number that do nothing or call, and then one that returns.
+-- A method of this name that is static, has one attribute, a Code without handlers and attributes,
+-- and whose instructions are any number that do nothing or call, and then one that returns.
 pub record MethodForm (c : Class) (name : List ℕ) : Type 0 where
   pub at : ℕ
   pub is_method : IsMethodAt c name (codes "()V") at

@@ -25,12 +25,14 @@ files_of contents writes faults files =
     record { contents = contents files; writes = writes files; faults = faults files }
 
 abbrev pub sink_of : {S : Type 0} → (S → Option (List ℕ)) → (S → ℕ) → (S → ℕ) → S → SinkState
-sink_of bytes puts faults sink = record { bytes = bytes sink; puts = puts sink; faults = faults sink }
+sink_of bytes puts faults sink =
+    record { bytes = bytes sink; puts = puts sink; faults = faults sink }
 
 abbrev pub moment : FilesState → SinkState → SinkState → Moment
 moment files out err = record { files = files; out = out; err = err }
 
--- a fault of the files, of standard output or of standard error is on record from one moment to the other
+-- a fault of the files, of standard output or of standard error is on record from one moment to the
+-- other
 abbrev pub FilesFault : Moment → Moment → Type 0
 FilesFault before after = HasFault before.files.faults after.files.faults
 

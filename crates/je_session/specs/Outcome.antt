@@ -17,18 +17,21 @@ use Rattle.je_session.specs.ReportText.{failed_line, output_of}
 pub data Outcome : Type 0 where
   -- the run stopped before its output
   Stopped : (cause : Cause) → Outcome
-  -- it came to the output of these edits, in order, and did it up to a step that failed, or all of it
+  -- it came to the output of these edits, in order, and did it up to a step that failed, or all of
+  -- it
   Came : (edits : List ClassEdit) → (failed : Option Step) → Outcome
 
 -- ---- why
 
--- the classes that a script plans, in the order of first mention: a script is the plan of one class so far
+-- the classes that a script plans, in the order of first mention: a script is the plan of one class
+-- so far
 abbrev pub classes_of : Script → List Script
 classes_of script = script ∷ []
 
--- The words name a script, and the edits are those of its classes. Where the files tell what they hold, script and
--- classes are what they held.
-pub record AreEdits (words : List (List ℕ)) (files : Option Contents) (edits : List ClassEdit) : Type 0 where
+-- The words name a script, and the edits are those of its classes. Where the files tell what they
+-- hold, script and classes are what they held.
+pub record AreEdits (words : List (List ℕ)) (files : Option Contents) (edits : List ClassEdit) :
+    Type 0 where
   pub line : (path : List ℕ) × IsLine words path
   pub script : Script
   pub read : IfSome files (λ before. ReadsScript words before script)
@@ -42,7 +45,8 @@ HasFailed before after (Some (Write path bytes)) = FilesFault before after
 
 -- the outcome is what the words, the files as they were told before, and the faults show
 abbrev pub Happens : List (List ℕ) → Moment → Moment → Outcome → Type 0
-Happens words before after (Stopped cause) = Explains words before.files.contents (FilesFault before after) cause
+Happens words before after (Stopped cause) =
+    Explains words before.files.contents (FilesFault before after) cause
 Happens words before after (Came edits failed) =
     AreEdits words before.files.contents edits × HasFailed before after failed
 
@@ -59,8 +63,9 @@ told_of (Stopped cause) = Some (line_of cause)
 told_of (Came edits None) = None
 told_of (Came edits (Some step)) = Some (failed_line step)
 
--- What was put on standard output and written: nothing; or the output of the edits, step by step, up to the step that
--- failed. So each class before that step stands with all that is said of its edit.
+-- What was put on standard output and written: nothing; or the output of the edits, step by step,
+-- up to the step that failed. So each class before that step stands with all that is said of its
+-- edit.
 abbrev pub HasOutput : Outcome → Held → Held → Type 0
 HasOutput (Stopped cause) old new = new ≡ old
 HasOutput (Came edits failed) old new = Goes (output_of edits) failed old new
@@ -68,12 +73,13 @@ HasOutput (Came edits failed) old new = Goes (output_of edits) failed old new
 -- standard error takes the line in one put, all of it where no fault of it is on record
 abbrev pub IsTold : Option (List ℕ) → Type 0 → Taken → Taken → Type 0
 IsTold None err_fault old new = new ≡ old
-IsTold (Some line) err_fault old new = PutFails line old new × ((err_fault → ⊥) → new ≡ put line old)
+IsTold (Some line) err_fault old new =
+    PutFails line old new × ((err_fault → ⊥) → new ≡ put line old)
 
 -- ---- a run
 
--- A run from one moment to another: what happened, what it answers, what it put and wrote, and what it told on standard
--- error are those of one outcome.
+-- A run from one moment to another: what happened, what it answers, what it put and wrote, and what
+-- it told on standard error are those of one outcome.
 pub record IsRun (words : List (List ℕ)) (before after : Moment) (answer : Status) : Type 0 where
   pub outcome : Outcome
   pub happens : Happens words before after outcome

@@ -17,7 +17,8 @@ pub record Taken : Type 0 where
   pub bytes : Option (List ℕ)
   pub puts : ℕ
 
--- what lies in the files, where they tell that, how many writes there were, and what standard output took
+-- what lies in the files, where they tell that, how many writes there were, and what standard
+-- output took
 pub record Held : Type 0 where
   pub contents : Option Contents
   pub writes : ℕ
@@ -27,7 +28,8 @@ abbrev pub taken : Option (List ℕ) → ℕ → Taken
 taken bytes puts = record { bytes = bytes; puts = puts }
 
 abbrev pub held : Option Contents → ℕ → Option (List ℕ) → ℕ → Held
-held contents writes bytes puts = record { contents = contents; writes = writes; out = taken bytes puts }
+held contents writes bytes puts =
+    record { contents = contents; writes = writes; out = taken bytes puts }
 
 -- what a moment has of these
 abbrev pub held_of : Moment → Held
@@ -55,11 +57,15 @@ pub record WriteFails (path : List ℕ) (old new : Held) : Type 0 where
 abbrev pub done : Step → Held → Held
 done (Put piece) old = record old { out = put piece old.out }
 done (Write path bytes) old =
-    record old { contents = option_map (λ files. insert files path bytes) old.contents; writes = raised old.writes }
+    record old {
+      contents = option_map (λ files. insert files path bytes) old.contents;
+      writes = raised old.writes;
+    }
 
 -- a step that fails
 abbrev pub Fails : Step → Held → Held → Type 0
-Fails (Put piece) old new = PutFails piece old.out new.out × (new.contents ≡ old.contents) × (new.writes ≡ old.writes)
+Fails (Put piece) old new =
+    PutFails piece old.out new.out × (new.contents ≡ old.contents) × (new.writes ≡ old.writes)
 Fails (Write path bytes) old new = WriteFails path old new
 
 -- The steps are done in order, up to the one that fails, where one does.

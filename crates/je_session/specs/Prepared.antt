@@ -22,13 +22,16 @@ output made =
 -- the path and the lines of the edit of a script
 pub record HasLines (script : Script) (matched : ℕ) (made : Made) : Type 0 where
   pub path : string_bytes made.path ≡ out_path script.class_name
-  pub edited_line : string_bytes made.edited_line ≡ report.edited_line script.class_name script.plan.name matched
+  pub edited_line : string_bytes made.edited_line
+      ≡ report.edited_line script.class_name script.plan.name matched
   pub wrote_line : string_bytes made.wrote_line ≡ report.wrote_line (string_bytes made.path)
-  pub writing_line : string_bytes made.writing_line ≡ report.failed_line (Write (string_bytes made.path) made.bytes.items)
+  pub writing_line : string_bytes made.writing_line
+      ≡ report.failed_line (Write (string_bytes made.path) made.bytes.items)
 
 -- all of it is made, of the edits of what was read
 pub record IsPrepared (words : List (List ℕ)) (files : Option Contents) (made : Made) : Type 0 where
   pub edits : List ClassEdit
   pub are_edits : AreEdits words files edits
   pub output : output made ≡ report.output_of edits
-  pub writing_line : string_bytes made.writing_line ≡ report.failed_line (Write (string_bytes made.path) made.bytes.items)
+  pub writing_line : string_bytes made.writing_line
+      ≡ report.failed_line (Write (string_bytes made.path) made.bytes.items)

@@ -17,13 +17,15 @@ abbrev pub IsCode : List Place → Attribute → Type 0
 IsCode consts a = text_at consts a.name ≡ Some (codes "Code")
 
 -- the method's one attribute of that name, at its place (JVMS 4.7.3)
-pub record IsCodeAt (consts : List Place) (attributes : List Attribute) (at : ℕ) (attribute : Attribute) : Type 0 where
+pub record IsCodeAt (consts : List Place) (attributes : List Attribute) (at : ℕ)
+    (attribute : Attribute) : Type 0 where
   pub here : slice_get attributes at ≡ Some attribute
   pub is_code : IsCode consts attribute
-  pub only : (i : ℕ) (other : Attribute) → slice_get attributes i ≡ Some other → IsCode consts other → i ≡ at
+  pub only : (i : ℕ) (other : Attribute) → slice_get attributes i ≡ Some other → IsCode consts other
+      → i ≡ at
 
--- The instructions of a method are those that its code spells, each with what it names in place. Methods are static and
--- have the descriptor `()V` and no handlers so far.
+-- The instructions of a method are those that its code spells, each with what it names in place.
+-- Methods are static and have the descriptor `()V` and no handlers so far.
 pub record ProgramOf (c : Class) (m : Member) (program : Program) : Type 0 where
   pub static : IsBitSet m.access 3
   pub descriptor : text_at c.consts m.descriptor ≡ Some (codes "()V")

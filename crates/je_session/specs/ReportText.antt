@@ -8,8 +8,8 @@ use Rattle.je_session.specs.ClassEdit.{ClassEdit}
 use Rattle.je_session.specs.Forms.{out_path}
 use Rattle.je_session.specs.Output.{Step, Put, Write}
 
--- The line of a method that was edited, in which the rules chose so many expressions: its class's name, its name and its
--- descriptor.
+-- The line of a method that was edited, in which the rules chose so many expressions: its class's
+-- name, its name and its descriptor.
 abbrev pub edited_line : List ℕ → List ℕ → ℕ → List ℕ
 edited_line class method matched =
     codes "edited " ++ (shown class ++ (codes "." ++ (shown method

@@ -12,15 +12,16 @@ use Rattle.je_session.specs.Tokens.{IsLetter, AreTokens}
 -- the reserved words of Java SE 8 (JLS 3.9), with `true`, `false` and `null`
 unfoldable pub reserved_words : List (List ℕ)
 reserved_words =
-    codes "abstract" ∷ codes "assert" ∷ codes "boolean" ∷ codes "break" ∷ codes "byte" ∷ codes "case" ∷ codes "catch"
-    ∷ codes "char" ∷ codes "class" ∷ codes "const" ∷ codes "continue" ∷ codes "default" ∷ codes "do" ∷ codes "double"
-    ∷ codes "else" ∷ codes "enum" ∷ codes "extends" ∷ codes "final" ∷ codes "finally" ∷ codes "float" ∷ codes "for"
-    ∷ codes "goto" ∷ codes "if" ∷ codes "implements" ∷ codes "import" ∷ codes "instanceof" ∷ codes "int"
-    ∷ codes "interface" ∷ codes "long" ∷ codes "native" ∷ codes "new" ∷ codes "package" ∷ codes "private"
-    ∷ codes "protected" ∷ codes "public" ∷ codes "return" ∷ codes "short" ∷ codes "static" ∷ codes "strictfp"
-    ∷ codes "super" ∷ codes "switch" ∷ codes "synchronized" ∷ codes "this" ∷ codes "throw" ∷ codes "throws"
-    ∷ codes "transient" ∷ codes "try" ∷ codes "void" ∷ codes "volatile" ∷ codes "while"
-    ∷ codes "true" ∷ codes "false" ∷ codes "null" ∷ []
+    codes "abstract" ∷ codes "assert" ∷ codes "boolean" ∷ codes "break" ∷ codes "byte"
+    ∷ codes "case" ∷ codes "catch" ∷ codes "char" ∷ codes "class" ∷ codes "const" ∷ codes "continue"
+    ∷ codes "default" ∷ codes "do" ∷ codes "double" ∷ codes "else" ∷ codes "enum" ∷ codes "extends"
+    ∷ codes "final" ∷ codes "finally" ∷ codes "float" ∷ codes "for" ∷ codes "goto" ∷ codes "if"
+    ∷ codes "implements" ∷ codes "import" ∷ codes "instanceof" ∷ codes "int" ∷ codes "interface"
+    ∷ codes "long" ∷ codes "native" ∷ codes "new" ∷ codes "package" ∷ codes "private"
+    ∷ codes "protected" ∷ codes "public" ∷ codes "return" ∷ codes "short" ∷ codes "static"
+    ∷ codes "strictfp" ∷ codes "super" ∷ codes "switch" ∷ codes "synchronized" ∷ codes "this"
+    ∷ codes "throw" ∷ codes "throws" ∷ codes "transient" ∷ codes "try" ∷ codes "void"
+    ∷ codes "volatile" ∷ codes "while" ∷ codes "true" ∷ codes "false" ∷ codes "null" ∷ []
 
 abbrev pub BeginsName : List ℕ → Type 0
 BeginsName [] = ⊥
@@ -33,17 +34,21 @@ IsIdent w = BeginsName w × (Contains reserved_words w → ⊥)
 abbrev pub fragment_tokens : Fragment → List Token
 fragment_tokens Empty = Mark 123 ∷ Mark 125 ∷ []
 fragment_tokens Proceed =
-    Mark 123 ∷ Word (codes "$proceed") ∷ Mark 40 ∷ Word (codes "$$") ∷ Mark 41 ∷ Mark 59 ∷ Mark 125 ∷ []
+    Mark 123 ∷ Word (codes "$proceed") ∷ Mark 40 ∷ Word (codes "$$") ∷ Mark 41 ∷ Mark 59 ∷ Mark 125
+    ∷ []
 
 -- `call CLASS.METHOD FRAGMENT`
 abbrev pub rule_tokens : Rule → List Token
-rule_tokens rule = Word (codes "call") ∷ Word rule.class_name ∷ Mark 46 ∷ Word rule.member ∷ fragment_tokens rule.fragment
+rule_tokens rule =
+    Word (codes "call") ∷ Word rule.class_name ∷ Mark 46 ∷ Word rule.member
+    ∷ fragment_tokens rule.fragment
 
 -- `class CLASS { method void METHOD() { RULES } }`
 abbrev pub script_tokens : Script → List Token
 script_tokens script =
     Word (codes "class") ∷ Word script.class_name ∷ Mark 123
-    ∷ Word (codes "method") ∷ Word (codes "void") ∷ Word script.plan.name ∷ Mark 40 ∷ Mark 41 ∷ Mark 123
+    ∷ Word (codes "method") ∷ Word (codes "void") ∷ Word script.plan.name ∷ Mark 40 ∷ Mark 41
+    ∷ Mark 123
     ∷ (flat_map rule_tokens script.plan.rules ++ Mark 125 ∷ Mark 125 ∷ [])
 
 pub record IsRule (rule : Rule) : Type 0 where

@@ -40,4 +40,5 @@ AreTokens text (Mark m ∷ tokens) =
     × AllByRecursion IsWhite white × IsMark m × (text ≡ white ++ m ∷ rest) × AreTokens rest tokens
 AreTokens text (Word w ∷ tokens) =
     (white : List ℕ) × (rest : List ℕ)
-    × AllByRecursion IsWhite white × IsWord w × EndsWord rest × (text ≡ white ++ (w ++ rest)) × AreTokens rest tokens
+    × AllByRecursion IsWhite white × IsWord w × EndsWord rest × (text ≡ white ++ (w ++ rest))
+    × AreTokens rest tokens

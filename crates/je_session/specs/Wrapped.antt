@@ -1,5 +1,5 @@
--- What an edited method is to do: the parts of its plan round the reference run of its body. The plan has rules alone
--- so far, so the body is all of it.
+-- What an edited method is to do: the parts of its plan round the reference run of its body. The
+-- plan has rules alone so far, so the body is all of it.
 use Rattle.std.specs.Prelude.{ℕ, List}
 use Rattle.je_instr.specs.Value.{Value}
 use Rattle.je_instr.specs.Heap.{Heap, Classes}
@@ -10,4 +10,5 @@ use Rattle.je_session.specs.declared.plan.MethodPlan.{MethodPlan}
 use Rattle.je_session.specs.RefRun.{reference_run}
 
 abbrev pub wrapped : Program → MethodPlan → Classes → List Value → Heap → List Answer → ℕ → Outcome
-wrapped program plan classes arguments heap answers bound = reference_run program classes plan.rules arguments heap answers bound
+wrapped program plan classes arguments heap answers bound =
+    reference_run program classes plan.rules arguments heap answers bound

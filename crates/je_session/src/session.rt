@@ -22,9 +22,9 @@ use std::alloc::Global;
 
 /// Edits a class by a script. `words` are those of the command line after the program's name.
 ///
-/// In this order: the words are looked at, the script is read, then its class; the class is edited; the bytes and the lines
-/// are made. From here on no memory is taken: the `edited` lines go to `out` in one put, the class is written, its `wrote`
-/// line is put. The first failure ends the run.
+/// In this order: the words are looked at, the script is read, then its class; the class is edited;
+/// the bytes and the lines are made. From here on no memory is taken: the `edited` lines go to
+/// `out` in one put, the class is written, its `wrote` line is put. The first failure ends the run.
 ///
 /// | Status | When | On `out` | On `err` |
 /// |---|---|---|---|
@@ -42,8 +42,9 @@ pub fn run<F: Files, O: Sink, E: Sink>(
     out: &mut O,
     err: &mut E,
 ) -> Status
-    // All that is promised of a run is said of one outcome: each class that it edits, with its source, its plans and its
-    // bytes; what it answers; what it put and wrote, in order; what it told.
+    // All that is promised of a run is said of one outcome: each class that it edits, with its
+    // source, its plans and its bytes; what it answers; what it put and wrote, in order; what it
+    // told.
     ensures outcome { let before = moment (files_of F.contents F.writes F.faults files.old)
         (sink_of O.bytes O.puts O.faults out.old) (sink_of E.bytes E.puts E.faults err.old) in
         let after = moment (files_of F.contents F.writes F.faults files.new)
