@@ -6,7 +6,8 @@ use Rattle.std.proofs.lemmas.Bool.{cases_lt}
 use Rattle.std.specs.Int.{w32, from_be_bytes}
 use Rattle.std.proofs.lemmas.Nat.{be_bytes_4}
 use Rattle.je_consts.specs.declared.place.Place.{Place}
-use Rattle.je_consts.specs.Layout.{u2, u4, pool_layout, IsPoolAt}
+use Rattle.je_base.specs.Bytes.{u2, u4}
+use Rattle.je_consts.specs.Layout.{pool_layout, IsPoolAt}
 use Rattle.je_class.specs.declared.fault.ClassFault.{ClassFault}
 use Rattle.je_class.specs.declared.fault.ClassFault.TheVariants.{Memory}
 use Rattle.je_class.specs.FileParts.{Test, Passes, fault_of, Part, U2, U4, Pool, part_bytes, IsSoundPart}

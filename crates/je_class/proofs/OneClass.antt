@@ -4,7 +4,8 @@ use Rattle.std.proofs.lemmas.List.{take_at}
 use Rattle.je_consts.specs.declared.fault.ConstFault.{ConstFault}
 use Rattle.je_consts.specs.declared.place.Place.{Place}
 use Rattle.je_consts.specs.Faults as in_pool
-use Rattle.je_consts.specs.Layout.{u2, entries_layout, pool_layout, IsPoolAt}
+use Rattle.je_base.specs.Bytes.{u2}
+use Rattle.je_consts.specs.Layout.{entries_layout, pool_layout, IsPoolAt}
 use Rattle.je_consts.specs.Pool.{IsPool}
 use Rattle.je_class.specs.declared.member.Attribute.{Attribute}
 use Rattle.je_class.specs.declared.member.Member.{Member}

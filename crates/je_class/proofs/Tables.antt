@@ -2,7 +2,7 @@
 use Rattle.std.proofs.Common.{◌≡◌, ℕ, zero, suc, ◌+◌, ◌-◌, ◌^◌, ◌<◌, List, [], ◌∷◌, ◌++◌, length, Ok, Err, refl, sym, ap, subst, ◌∙◌, append_assoc, length-append, arith, inl}
 use Rattle.std.proofs.lemmas.List.{append-nil}
 use Rattle.je_consts.specs.declared.place.Place.{Place}
-use Rattle.je_consts.specs.Layout.{u4}
+use Rattle.je_base.specs.Bytes.{u4}
 use Rattle.je_class.specs.declared.fault.ClassFault.{ClassFault}
 use Rattle.je_class.specs.declared.member.Attribute.{Attribute}
 use Rattle.je_class.specs.FileParts.{Part, U2, NamesAttribute, each, table_parts, attribute_parts}

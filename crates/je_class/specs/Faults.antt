@@ -5,7 +5,7 @@ use Rattle.je_consts.specs.declared.place.Place.{Place}
 use Rattle.je_consts.specs.declared.fault.ConstFault.{ConstFault}
 use Rattle.je_consts.specs.declared.fault.ConstFault.TheVariants as pool
 use Rattle.je_consts.specs.Faults as in_pool
-use Rattle.je_consts.specs.Layout.{u2, u4}
+use Rattle.je_base.specs.Bytes.{u2, u4}
 use Rattle.je_class.specs.declared.fault.ClassFault.{ClassFault}
 use Rattle.je_class.specs.declared.fault.ClassFault.TheVariants.{TooLong, Truncated, BadConst, Trailing, Memory}
 use Rattle.je_class.specs.Class.{Class}

@@ -1,7 +1,7 @@
 //! The single numbers of a class file, each read at an offset.
 
 ghost use Rattle.std.specs.Prelude.{◌≡◌, ◌+◌, ◌^◌, ◌<◌, drop, length, IfOk, IfErr};
-ghost use Rattle.je_consts.specs.Layout.{u2, u4};
+ghost use Rattle.je_base.specs.Bytes.{u2, u4};
 ghost use Rattle.je_class.specs.Faults.{IsThere, IsCut};
 
 use crate::fault::ClassFault;

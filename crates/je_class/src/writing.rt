@@ -1,7 +1,8 @@
 //! The bytes of a class file (JVMS 4.1).
 
 ghost use Rattle.std.specs.Prelude.{◌≡◌, ℕ, ◌^◌, ◌<◌, List, ◌++◌, length, IfOk, OnOk};
-ghost use Rattle.je_consts.specs.Layout.{u2, u4, table, pool_layout};
+ghost use Rattle.je_base.specs.Bytes.{u2, u4, table};
+ghost use Rattle.je_consts.specs.Layout.{pool_layout};
 ghost use Rattle.je_class.specs.ClassBytes.{ClassBytes};
 ghost use Rattle.je_class.specs.InMemory.{class_of_parts};
 ghost use Rattle.je_class.specs.Layout.{attribute_layout, member_layout, head_layout, numbers_layout, tables_layout, class_layout, FitsTable, FitsAttribute, FitsMember, FitsClass};
