@@ -1,3 +1,4 @@
+pub mod BytesLemmas
 pub mod TextLemmas
 pub mod EncodingLemmas
 pub mod ShownLemmas

@@ -1,3 +1,4 @@
+pub mod Bytes
 pub mod Count
 pub mod Text
 pub mod Units

@@ -3,8 +3,10 @@
 //! Traits for files and for sinks of bytes, each with one implementation in memory and one over the real
 //! system, and class file texts. Stands on std alone. Offers above: what each read, write and put does
 //! where it is told, and that a failure is never answered without a fault on record.
+//! Also numbers and runs of a format of bytes: what is read at an offset is what stands there.
 #![tactic(auto)]
 
+mod bytes;
 mod count;
 mod encoding;
 mod files;
@@ -20,6 +22,9 @@ mod store;
 mod stream;
 mod text;
 
+pub use bytes::{
+    Cut, one_reading, put_u16, put_u32, put_u64, run_at, u8_at, u16_at, u32_at, u64_at,
+};
 pub use encoding::{decode_text, encode_text};
 pub use files::Files;
 pub use fs_files::FsFiles;

@@ -1,3 +1,4 @@
+use crate::bytes::{Cut, put_u16, put_u32, put_u64, run_at, u8_at, u16_at, u32_at, u64_at};
 use crate::encoding::{decode_text, encode_text};
 use crate::files::Files;
 use crate::fs_files::FsFiles;
@@ -9,6 +10,28 @@ use crate::stop::{Failed, FileStop};
 use crate::text::Text;
 use std::fs;
 use std::test::Fail;
+
+#[test]
+fn numbers_and_runs_of_a_format(rt: HostRuntime) -> Result<(), Fail> {
+    let mut out = Vec::new(rt.alloc());
+    out.push(0x01)?;
+    put_u16(&mut out, 0x0203)?;
+    put_u32(&mut out, 0x0405_0607)?;
+    put_u64(&mut out, 0x0809_0a0b_0c0d_0e0f)?;
+    let bytes = b"\x01\x02\x03\x04\x05\x06\x07\x08\x09\x0a\x0b\x0c\x0d\x0e\x0f".as_slice();
+    assert_eq!(rt; out.as_slice(), bytes);
+    assert_eq!(rt; u8_at(bytes, 0), Ok((0x01, 1)));
+    assert_eq!(rt; u16_at(bytes, 1), Ok((0x0203, 3)));
+    assert_eq!(rt; u32_at(bytes, 3), Ok((0x0405_0607, 7)));
+    assert_eq!(rt; u64_at(bytes, 7), Ok((0x0809_0a0b_0c0d_0e0f, 15)));
+    assert_eq!(rt; run_at(bytes, 12, 3), Ok((b"\x0d\x0e\x0f".as_slice(), 15)));
+    assert_eq!(rt; u8_at(bytes, 15), Err(Cut(15)));
+    assert_eq!(rt; u16_at(bytes, 14), Err(Cut(14)));
+    assert_eq!(rt; u32_at(bytes, 12), Err(Cut(12)));
+    assert_eq!(rt; u64_at(bytes, 8), Err(Cut(8)));
+    assert_eq!(rt; run_at(bytes, 12, 4), Err(Cut(12)));
+    Ok(())
+}
 
 #[test]
 fn texts_are_modified_utf8(rt: HostRuntime) -> Result<(), Fail> {

@@ -6,11 +6,12 @@ use Rattle.std.proofs.lemmas.Bool.{cases_lt}
 use Rattle.std.specs.Int.{w32, from_be_bytes}
 use Rattle.std.proofs.lemmas.Nat.{be_bytes_4}
 use Rattle.je_consts.specs.declared.place.Place.{Place}
-use Rattle.je_consts.specs.Layout.{u2, u4, pool_layout, IsPoolAt}
+use Rattle.je_base.specs.Bytes.{u2, u4, IsThere}
+use Rattle.je_consts.specs.Layout.{pool_layout, IsPoolAt}
 use Rattle.je_class.specs.declared.fault.ClassFault.{ClassFault}
-use Rattle.je_class.specs.declared.fault.ClassFault.TheVariants.{Memory}
+use Rattle.je_class.specs.declared.fault.ClassFault.TheVariants.{Memory, Truncated}
 use Rattle.je_class.specs.FileParts.{Test, Passes, fault_of, Part, U2, U4, Pool, part_bytes, IsSoundPart}
-use Rattle.je_class.specs.Faults.{IsThere, IsCut, FailsFirst, Breaks}
+use Rattle.je_class.specs.Faults.{FailsFirst, Breaks}
 use Rattle.je_class.specs.Reading.{Follows, Comes}
 
 module _ (bytes : List ℕ) (consts : List Place) where
@@ -89,11 +90,11 @@ u2_comes there end_is fits pass = record { goes = (there, (fits, pass), end_is) 
 pub u4_comes : {bytes : List ℕ} {consts : List Place} {at n end : ℕ} {tests : List Test} → IsThere bytes at (u4 n) → end ≡ at + 4 → n < 2 ^ 32 → AllByRecursion (Passes consts) tests → Comes bytes consts at (U4 n tests ∷ []) (Ok end)
 u4_comes there end_is fits pass = record { goes = (there, (fits, pass), end_is) }
 
-pub u2_cut : {bytes : List ℕ} {consts : List Place} {at : ℕ} {d : ClassFault} (n : ℕ) (tests : List Test) → IsCut bytes at 2 d → Comes bytes consts at (U2 n tests ∷ []) (Err d)
-u2_cut n tests cut = record { goes = inl (inl cut) }
+pub u2_cut : {bytes : List ℕ} {consts : List Place} {at cut : ℕ} (n : ℕ) (tests : List Test) → (length (drop at bytes) < 2) × (cut ≡ at) → Comes bytes consts at (U2 n tests ∷ []) (Err (Truncated cut))
+u2_cut n tests short = record { goes = inl (inl (short.0, ap Truncated short.1)) }
 
-pub u4_cut : {bytes : List ℕ} {consts : List Place} {at : ℕ} {d : ClassFault} (n : ℕ) (tests : List Test) → IsCut bytes at 4 d → Comes bytes consts at (U4 n tests ∷ []) (Err d)
-u4_cut n tests cut = record { goes = inl (inl cut) }
+pub u4_cut : {bytes : List ℕ} {consts : List Place} {at cut : ℕ} (n : ℕ) (tests : List Test) → (length (drop at bytes) < 4) × (cut ≡ at) → Comes bytes consts at (U4 n tests ∷ []) (Err (Truncated cut))
+u4_cut n tests short = record { goes = inl (inl (short.0, ap Truncated short.1)) }
 
 pub u2_fails : {bytes : List ℕ} {consts : List Place} {at n : ℕ} {d : ClassFault} {tests : List Test} → IsThere bytes at (u2 n) → n < 2 ^ 16 → FailsFirst consts at tests d → Comes bytes consts at (U2 n tests ∷ []) (Err d)
 u2_fails there fits fails = record { goes = inl (inr (there, fits, fails)) }
@@ -143,18 +144,3 @@ pub unless_fails : {consts : List Place} {at : ℕ} {tests : List Test} (fault :
     → IfSome fault (FailsFirst consts at tests)
 unless_fails (Some f) P d h fails = rw h.1 (fails h.0)
 unless_fails None P d h fails = h
-
--- ---- numbers
-
-front_fits : (n at : ℕ) (bytes : List ℕ) → ((i : ℕ) → get_or bytes i 0 < 256) → (i : ℕ) → get_or (take n (drop at bytes)) i 0 < 256
-front_fits n at bytes fits i =
-    elim (cases_lt i n) [
-      | inl lt ↦ rw (get_or-take n (drop at bytes) i 0 lt) (rw get_or-drop (fits (at + i)))
-      | inr le ↦ rw (get_or_past (take n (drop at bytes)) i 0 (omega (arith, length-take n (drop at bytes)))) (omega arith)
-    ]
-
-pub there_4 : (bytes : List ℕ) (at n : ℕ) → 4 ≤ length (drop at bytes) → ((i : ℕ) → get_or bytes i 0 < 256) → n ≡ from_be_bytes w32 (take 4 (drop at bytes)) → IsThere bytes at (u4 n)
-there_4 bytes at n long fits e =
-    let rest = drop at bytes in
-    let front : u4 n ≡ take 4 rest = be_bytes_4 (take 4 rest) n (omega (arith, length-take 4 rest)) (front_fits 4 at bytes fits) e in
-    sym (take-append-drop 4 rest) ∙ ap (λ (t : List ℕ). t ++ drop 4 rest) (sym front) ∙ ap (λ (t : List ℕ). u4 n ++ t) (drop-drop 4 at bytes)

@@ -5,10 +5,10 @@ use Rattle.je_class.specs.declared.fault.ClassFault.TheVariants.{TooLong}
 use Rattle.je_class.specs.Class.{Class}
 use Rattle.je_class.specs.ClassBytes.{ClassBytes}
 use Rattle.je_class.specs.Faults.{FirstFault, too_long, breaks, trailing}
-use Rattle.je_class.proofs.OneClass.{PoolLaws}
+use Rattle.je_class.proofs.OneClass.{Laws}
 use Rattle.je_class.proofs.ReadLemmas.{stands_front, stands_all, stands_only, stands_fault, breaks_fault}
 
-module _ (laws : PoolLaws) (bytes : List ℕ) where
+module _ (laws : Laws) (bytes : List ℕ) where
   pub same_class : (c d : Class) → ClassBytes bytes c → ClassBytes bytes d → c ≡ d
   same_class c d h k = (stands_only bytes c (length bytes) (stands_all bytes c h) laws d k).0
 

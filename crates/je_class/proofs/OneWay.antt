@@ -1,13 +1,11 @@
 -- Parts of one sort come to one answer at an offset: nothing else is spelled there, and no other fault is the first.
-use Rattle.std.proofs.Common.{◌≡◌, ℕ, zero, suc, ◌+◌, ◌^◌, ◌<◌, List, [], ◌∷◌, ◌++◌, length, take, drop, Result, Ok, Err, refl, sym, ap, subst, ◌∙◌, length-append, arith, inl, inr, ◌⊎◌}
-use Rattle.std.specs.Int.{Width, w16, w32, byte_len, from_be_bytes, to_be_bytes}
+use Rattle.std.proofs.Common.{◌≡◌, ℕ, zero, suc, ◌+◌, ◌^◌, ◌<◌, List, [], ◌∷◌, ◌++◌, length, drop, Result, Ok, Err, refl, sym, ap, subst, ◌∙◌, arith, inl, inr, ◌⊎◌}
 use Rattle.std.specs.List.{AllByRecursion}
-use Rattle.std.proofs.lemmas.List.{take_at}
+use Rattle.je_base.specs.Bytes.{u2, u4, IsThere, OneReading}
 use Rattle.je_consts.specs.declared.place.Place.{Place}
-use Rattle.je_consts.proofs.FieldLemmas.{IsWide, wide16, wide32}
 use Rattle.je_class.specs.declared.fault.ClassFault.{ClassFault}
 use Rattle.je_class.specs.FileParts.{Test, Passes, fault_of, Part, U2, U4, Run, each, table_parts}
-use Rattle.je_class.specs.Faults.{IsThere, IsCut, FailsFirst}
+use Rattle.je_class.specs.Faults.{IsCut, FailsFirst}
 use Rattle.je_class.specs.Reading.{Goes, Comes}
 use Rattle.je_class.proofs.Alls.{all_split}
 use Rattle.je_class.proofs.Comes.{Parts, split}
@@ -125,31 +123,27 @@ module _ (consts : List Place) where
 
 -- ---- numbers and runs
 
-module _ (bytes : List ℕ) (consts : List Place) (at : ℕ) where
+module _ (one : OneReading) (bytes : List ℕ) (consts : List Place) (at : ℕ) where
   too_short : (text : List ℕ) (n : ℕ) → length text ≡ n → IsThere bytes at text → length (drop at bytes) < n → ⊥
-  too_short text n len there lt = omega (arith, ap length there, length-append text (drop (at + length text) bytes))
+  too_short text n len there lt = omega (arith, one.whole bytes text at there)
 
-  front_is : (text : List ℕ) (n : ℕ) → length text ≡ n → IsThere bytes at text → take n (drop at bytes) ≡ text
-  front_is text n len there = ap (take n) there ∙ take_at text (drop (at + length text) bytes) n len
-
-  module _ (w : Width) (limit : ℕ) (wide : IsWide w limit) (tests : ℕ → List Test) where
+  -- numbers of so many bytes
+  module _ (size limit : ℕ) (text : ℕ → List ℕ) (sized : (n : ℕ) → length (text n) ≡ size) (once : (m n : ℕ) → m < limit → n < limit → text m ≡ text n → m ≡ n) (tests : ℕ → List Test) where
     abbrev There : ℕ → Type 0
-    There n = IsThere bytes at (to_be_bytes w n)
+    There n = IsThere bytes at (text n)
 
     abbrev Sound : ℕ → Type 0
     Sound n = (n < limit) × AllByRecursion (Passes consts) (tests n)
 
     abbrev NumberGoes : ℕ → Answer → Type 0
-    NumberGoes n (Ok end) = There n × Sound n × (end ≡ at + length (to_be_bytes w n))
-    NumberGoes n (Err d) = (IsCut bytes at (byte_len w) d ⊎ (There n × (n < limit) × FailsFirst consts at (tests n) d)) ⊎ (There n × Sound n × ⊥)
+    NumberGoes n (Ok end) = There n × Sound n × (end ≡ at + length (text n))
+    NumberGoes n (Err d) = (IsCut bytes at size d ⊎ (There n × (n < limit) × FailsFirst consts at (tests n) d)) ⊎ (There n × Sound n × ⊥)
 
     same_number : (n m : ℕ) → n < limit → m < limit → There n → There m → n ≡ m
-    same_number n m ln lm hn hm =
-        let front : to_be_bytes w n ≡ to_be_bytes w m = sym (front_is (to_be_bytes w n) (byte_len w) (wide.len n) hn) ∙ front_is (to_be_bytes w m) (byte_len w) (wide.len m) hm in
-        sym (wide.again n ln) ∙ ap (from_be_bytes w) front ∙ wide.again m lm
+    same_number n m ln lm hn hm = once n m ln lm (one.run bytes (text n) (text m) at (sized n ∙ sym (sized m)) hn hm)
 
     stands_fails : (n m end : ℕ) (d : ClassFault) → NumberGoes n (Ok end) → NumberGoes m (Err d) → ⊥
-    stands_fails n m end d h (inl (inl cut)) = too_short (to_be_bytes w n) (byte_len w) (wide.len n) h.0 cut.0
+    stands_fails n m end d h (inl (inl cut)) = too_short (text n) size (sized n) h.0 cut.0
     stands_fails n m end d h (inl (inr f)) =
         let same = same_number n m h.1.0 f.1 h.0 f.0 in
         fails_not consts at (tests m) d f.2 (subst (λ (k : ℕ). AllByRecursion (Passes consts) (tests k)) same h.1.1)
@@ -159,31 +153,31 @@ module _ (bytes : List ℕ) (consts : List Place) (at : ℕ) where
     both_fail n m d e (inr f) k = absurd f.2
     both_fail n m d e (inl f) (inr k) = absurd k.2
     both_fail n m d e (inl (inl f)) (inl (inl k)) = f.1 ∙ sym k.1
-    both_fail n m d e (inl (inl f)) (inl (inr k)) = absurd (too_short (to_be_bytes w m) (byte_len w) (wide.len m) k.0 f.0)
-    both_fail n m d e (inl (inr f)) (inl (inl k)) = absurd (too_short (to_be_bytes w n) (byte_len w) (wide.len n) f.0 k.0)
+    both_fail n m d e (inl (inl f)) (inl (inr k)) = absurd (too_short (text m) size (sized m) k.0 f.0)
+    both_fail n m d e (inl (inr f)) (inl (inl k)) = absurd (too_short (text n) size (sized n) f.0 k.0)
     both_fail n m d e (inl (inr f)) (inl (inr k)) =
         let same = same_number n m f.1 k.1 f.0 k.0 in
         fails_one consts at (tests m) d e (subst (λ (i : ℕ). FailsFirst consts at (tests i) d) same f.2) k.2
 
     number_one : (n m : ℕ) (o p : Answer) → NumberGoes n o → NumberGoes m p → Agree n m o p
-    number_one n m (Ok a) (Ok b) h k = (same_number n m h.1.0 k.1.0 h.0 k.0, omega (arith, h.2, k.2, wide.len n, wide.len m))
+    number_one n m (Ok a) (Ok b) h k = (same_number n m h.1.0 k.1.0 h.0 k.0, omega (arith, h.2, k.2, sized n, sized m))
     number_one n m (Ok a) (Err e) h k = stands_fails n m a e h k
     number_one n m (Err d) (Ok b) h k = stands_fails m n b d k h
     number_one n m (Err d) (Err e) h k = both_fail n m d e h k
 
-  u2_goes : (tests : ℕ → List Test) (n : ℕ) (o : Answer) → Goes bytes consts at (U2 n (tests n) ∷ []) o → NumberGoes w16 (2 ^ 16) wide16 tests n o
+  u2_goes : (tests : ℕ → List Test) (n : ℕ) (o : Answer) → Goes bytes consts at (U2 n (tests n) ∷ []) o → NumberGoes 2 (2 ^ 16) u2 (λ i. refl) one.two tests n o
   u2_goes tests n (Ok end) h = h
   u2_goes tests n (Err d) h = h
 
-  u4_goes : (tests : ℕ → List Test) (n : ℕ) (o : Answer) → Goes bytes consts at (U4 n (tests n) ∷ []) o → NumberGoes w32 (2 ^ 32) wide32 tests n o
+  u4_goes : (tests : ℕ → List Test) (n : ℕ) (o : Answer) → Goes bytes consts at (U4 n (tests n) ∷ []) o → NumberGoes 4 (2 ^ 32) u4 (λ i. refl) one.four tests n o
   u4_goes tests n (Ok end) h = h
   u4_goes tests n (Err d) h = h
 
   pub u2_one : (tests : ℕ → List Test) → OneWay bytes consts at Any (λ n. U2 n (tests n) ∷ [])
-  u2_one tests = record { one = λ n m o p gn gm h k. number_one w16 (2 ^ 16) wide16 tests n m o p (u2_goes tests n o h.goes) (u2_goes tests m p k.goes) }
+  u2_one tests = record { one = λ n m o p gn gm h k. number_one 2 (2 ^ 16) u2 (λ i. refl) one.two tests n m o p (u2_goes tests n o h.goes) (u2_goes tests m p k.goes) }
 
   pub u4_one : (tests : ℕ → List Test) → OneWay bytes consts at Any (λ n. U4 n (tests n) ∷ [])
-  u4_one tests = record { one = λ n m o p gn gm h k. number_one w32 (2 ^ 32) wide32 tests n m o p (u4_goes tests n o h.goes) (u4_goes tests m p k.goes) }
+  u4_one tests = record { one = λ n m o p gn gm h k. number_one 4 (2 ^ 32) u4 (λ i. refl) one.four tests n m o p (u4_goes tests n o h.goes) (u4_goes tests m p k.goes) }
 
   module _ (n : ℕ) where
     run_stands_fails : (x y : List ℕ) (end : ℕ) (d : ClassFault) → length x ≡ n → length y ≡ n → Goes bytes consts at (Run x ∷ []) (Ok end) → Goes bytes consts at (Run y ∷ []) (Err d) → ⊥
@@ -191,7 +185,7 @@ module _ (bytes : List ℕ) (consts : List Place) (at : ℕ) where
     run_stands_fails x y end d lx ly h (inr k) = k.2
 
     run_one_by : (x y : List ℕ) (o p : Answer) → length x ≡ n → length y ≡ n → Goes bytes consts at (Run x ∷ []) o → Goes bytes consts at (Run y ∷ []) p → Agree x y o p
-    run_one_by x y (Ok a) (Ok b) lx ly h k = (sym (front_is x n lx h.0) ∙ front_is y n ly k.0, omega (arith, h.2, k.2))
+    run_one_by x y (Ok a) (Ok b) lx ly h k = (one.run bytes x y at (lx ∙ sym ly) h.0 k.0, omega (arith, h.2, k.2))
     run_one_by x y (Ok a) (Err e) lx ly h k = run_stands_fails x y a e lx ly h k
     run_one_by x y (Err d) (Ok b) lx ly h k = run_stands_fails y x b d ly lx k h
     run_one_by x y (Err d) (Err e) lx ly (inl h) (inl k) = h.1 ∙ sym k.1
@@ -202,8 +196,8 @@ module _ (bytes : List ℕ) (consts : List Place) (at : ℕ) where
     run_one = record { one = λ x y o p lx ly h k. run_one_by x y o p lx ly h.goes k.goes }
 
 -- a count, and that many structures
-pub table_one : (bytes : List ℕ) (consts : List Place) {A : Type 0} (parts : A → List Part) → ((at : ℕ) → OneWay bytes consts at Any parts) → (at : ℕ) → OneWay bytes consts at Any (table_parts parts)
-table_one bytes consts parts each_one at =
-    step bytes consts length Any Any (table_parts parts) (λ n. U2 n [] ∷ []) (each parts) at (u2_one bytes consts at (λ n. []))
+pub table_one : (one : OneReading) (bytes : List ℕ) (consts : List Place) {A : Type 0} (parts : A → List Part) → ((at : ℕ) → OneWay bytes consts at Any parts) → (at : ℕ) → OneWay bytes consts at Any (table_parts parts)
+table_one one bytes consts parts each_one at =
+    step bytes consts length Any Any (table_parts parts) (λ n. U2 n [] ∷ []) (each parts) at (u2_one one bytes consts at (λ n. []))
     (λ xs g. (tt, refl))
     (λ n mid. last bytes consts (λ xs. xs) (λ xs. Any xs × (length xs ≡ n)) (λ xs. length xs ≡ n) (each parts) (each parts) mid (items bytes consts parts each_one n mid) (λ xs g. (g.1, refl)) (λ y z gy gz e. e))

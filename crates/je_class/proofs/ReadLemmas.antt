@@ -1,17 +1,17 @@
 -- What reading the parts says of a whole class file and of its first fault.
 use Rattle.std.proofs.Common.{◌≡◌, ◌≢◌, ℕ, ◌+◌, ◌<◌, ◌≤◌, List, [], ◌∷◌, ◌++◌, length, drop, Ok, Err, refl, sym, ap, subst, ◌∙◌, append_assoc, length-append, length-drop, arith, inl, inr, ◌⊎◌}
 use Rattle.std.specs.List.{AllByRecursion}
-use Rattle.std.proofs.lemmas.List.{append-nil, drop_all}
+use Rattle.std.proofs.lemmas.List.{append-nil, drop_all, drop_at, drop-drop}
+use Rattle.je_base.specs.Bytes.{IsThere}
 use Rattle.je_consts.specs.declared.place.Place.{Place}
-use Rattle.je_consts.proofs.FieldLemmas.{behind}
 use Rattle.je_class.specs.declared.fault.ClassFault.{ClassFault}
 use Rattle.je_class.specs.declared.fault.ClassFault.TheVariants.{Trailing, Memory}
 use Rattle.je_class.specs.Class.{Class}
 use Rattle.je_class.specs.ClassBytes.{ClassBytes}
 use Rattle.je_class.specs.FileParts.{Part, part_bytes, IsSoundPart, spelled, parts, class_parts}
-use Rattle.je_class.specs.Faults.{IsThere, FirstFault, too_long, breaks, trailing}
+use Rattle.je_class.specs.Faults.{FirstFault, too_long, breaks, trailing}
 use Rattle.je_class.specs.Reading.{Follows, Comes}
-use Rattle.je_class.proofs.OneClass.{PoolLaws, one_class}
+use Rattle.je_class.proofs.OneClass.{Laws, one_class}
 
 -- ---- parts that stand, and the bytes that spell them
 
@@ -38,7 +38,7 @@ module _ (bytes : List ℕ) (consts : List Place) where
   spells_follows at (x ∷ xs) rest e sound =
       let text = part_bytes x in
       let front : drop at bytes ≡ text ++ (spelled xs ++ rest) = e ∙ append_assoc text (spelled xs) rest in
-      let next : drop (at + length text) bytes ≡ spelled xs ++ rest = behind bytes at text (spelled xs ++ rest) (length text) front refl in
+      let next : drop (at + length text) bytes ≡ spelled xs ++ rest = sym (drop-drop (length text) at bytes) ∙ ap (drop (length text)) front ∙ drop_at text (spelled xs ++ rest) (length text) refl in
       let there : IsThere bytes at text = front ∙ ap (λ (t : List ℕ). text ++ t) (sym next) in
       let ends : at + length text + length (spelled xs) ≡ at + length (spelled (x ∷ xs)) = omega (arith, length-append text (spelled xs)) in
       (there, sound.0, subst (λ (n : ℕ). Follows bytes consts (at + length text) xs n) ends (spells_follows (at + length text) xs rest next sound.1))
@@ -85,11 +85,11 @@ module _ (bytes : List ℕ) (c : Class) (end : ℕ) (h : Stands bytes c end) whe
 
   -- ---- no other answer
 
-  pub stands_only : (laws : PoolLaws) (d : Class) → ClassBytes bytes d → (c ≡ d) × (end ≡ length bytes)
+  pub stands_only : (laws : Laws) (d : Class) → ClassBytes bytes d → (c ≡ d) × (end ≡ length bytes)
   stands_only laws d k = one_class laws bytes 0xcafe_babe 0xcafe_babe c d (Ok end) (Ok (length bytes)) h (stands_all bytes d k)
 
   -- the end of a class file and what follows it are the first fault, or there is none
-  pub stands_fault : (laws : PoolLaws) (d : ClassFault) → length bytes ≤ 16777216 → FirstFault bytes d → (end < length bytes) × (Trailing end ≡ d)
+  pub stands_fault : (laws : Laws) (d : ClassFault) → length bytes ≤ 16777216 → FirstFault bytes d → (end < length bytes) × (Trailing end ≡ d)
   stands_fault laws _ within (too_long more) = absurd (omega arith)
   stands_fault laws _ within (breaks magic e d le b) = absurd (one_class laws bytes 0xcafe_babe magic c e (Ok end) (Err d) h (record { goes = b }))
   stands_fault laws _ within (trailing e front rest le whole some k) =
@@ -101,10 +101,10 @@ module _ (bytes : List ℕ) (magic : ℕ) (c : Class) (e : ClassFault) (h : Come
   pub breaks_first : length bytes ≤ 16777216 → FirstFault bytes e
   breaks_first within = breaks magic c e within h.goes
 
-  pub breaks_only : (laws : PoolLaws) (d : Class) → ClassBytes bytes d → ⊥
+  pub breaks_only : (laws : Laws) (d : Class) → ClassBytes bytes d → ⊥
   breaks_only laws d k = one_class laws bytes magic 0xcafe_babe c d (Err e) (Ok (length bytes)) h (stands_all bytes d k)
 
-  pub breaks_fault : (laws : PoolLaws) (d : ClassFault) → length bytes ≤ 16777216 → FirstFault bytes d → e ≡ d
+  pub breaks_fault : (laws : Laws) (d : ClassFault) → length bytes ≤ 16777216 → FirstFault bytes d → e ≡ d
   breaks_fault laws _ within (too_long more) = absurd (omega arith)
   breaks_fault laws _ within (breaks other f d le b) = one_class laws bytes magic other c f (Err e) (Err d) h (record { goes = b })
   breaks_fault laws _ within (trailing f front rest le whole some k) =
@@ -117,7 +117,7 @@ abbrev pub IsFault : List ℕ → ClassFault → Type 0
 IsFault bytes e = (e ≡ Memory) ⊎ ((magic : ℕ) × (c : Class) × Comes bytes c.consts 0 (parts magic c) (Err e))
 
 module _ (bytes : List ℕ) (e : ClassFault) where
-  pub fault_only : PoolLaws → IsFault bytes e → (d : Class) → ClassBytes bytes d → e ≡ Memory
+  pub fault_only : Laws → IsFault bytes e → (d : Class) → ClassBytes bytes d → e ≡ Memory
   fault_only laws (inl memory) d k = memory
   fault_only laws (inr h) d k = absurd (breaks_only bytes h.0 h.1 e h.2 laws d k)
 
@@ -125,6 +125,6 @@ module _ (bytes : List ℕ) (e : ClassFault) where
   fault_first within (inl memory) = inl memory
   fault_first within (inr h) = inr (breaks_first bytes h.0 h.1 e h.2 within)
 
-  pub fault_exact : PoolLaws → length bytes ≤ 16777216 → IsFault bytes e → (d : ClassFault) → FirstFault bytes d → (e ≡ Memory) ⊎ (e ≡ d)
+  pub fault_exact : Laws → length bytes ≤ 16777216 → IsFault bytes e → (d : ClassFault) → FirstFault bytes d → (e ≡ Memory) ⊎ (e ≡ d)
   fault_exact laws within (inl memory) d first = inl memory
   fault_exact laws within (inr h) d first = inr (breaks_fault bytes h.0 h.1 e h.2 laws d within first)

@@ -1,12 +1,12 @@
 -- A count, and that many structures.
-use Rattle.std.proofs.Common.{◌≡◌, ℕ, zero, suc, ◌+◌, ◌-◌, ◌^◌, ◌<◌, List, [], ◌∷◌, ◌++◌, length, Ok, Err, refl, sym, ap, subst, ◌∙◌, append_assoc, length-append, arith, inl}
+use Rattle.std.proofs.Common.{◌≡◌, ℕ, zero, suc, ◌+◌, ◌-◌, ◌^◌, ◌<◌, List, [], ◌∷◌, ◌++◌, length, drop, Ok, Err, refl, sym, ap, subst, ◌∙◌, append_assoc, length-append, arith, inl}
 use Rattle.std.proofs.lemmas.List.{append-nil}
 use Rattle.je_consts.specs.declared.place.Place.{Place}
-use Rattle.je_consts.specs.Layout.{u4}
+use Rattle.je_base.specs.Bytes.{u4, IsThere}
 use Rattle.je_class.specs.declared.fault.ClassFault.{ClassFault}
+use Rattle.je_class.specs.declared.fault.ClassFault.TheVariants.{Truncated}
 use Rattle.je_class.specs.declared.member.Attribute.{Attribute}
 use Rattle.je_class.specs.FileParts.{Part, U2, NamesAttribute, each, table_parts, attribute_parts}
-use Rattle.je_class.specs.Faults.{IsThere, IsCut}
 use Rattle.je_class.specs.Reading.{Comes}
 use Rattle.je_class.proofs.Comes.{then, stops, u4_comes}
 
@@ -52,10 +52,10 @@ module _ {A : Type 0} (parts : A → List Part) (xs : List A) where
       subst (λ (n : ℕ). Comes bytes consts at (U2 n [] ∷ each parts xs) (Ok next)) (sym (h.count_is ∙ all)) h.comes
 
 -- an attribute whose bytes are cut off
-pub attribute_cut : {bytes : List ℕ} {consts : List Place} {at mid start name len : ℕ} {d : ClassFault} → Comes bytes consts at (U2 name (NamesAttribute name ∷ []) ∷ []) (Ok mid) → IsThere bytes mid (u4 len) → start ≡ mid + 4
-    → len < 2 ^ 32 → IsCut bytes start len d → (a : Attribute) × Comes bytes consts at (attribute_parts a) (Err d)
-attribute_cut {bytes = bytes} {consts = consts} {at = at} {start = start} {name = name} {len = len} {d = d} named there start_is fits cut =
+pub attribute_cut : {bytes : List ℕ} {consts : List Place} {at mid start name len cut : ℕ} → Comes bytes consts at (U2 name (NamesAttribute name ∷ []) ∷ []) (Ok mid) → IsThere bytes mid (u4 len) → start ≡ mid + 4
+    → len < 2 ^ 32 → (length (drop start bytes) < len) × (cut ≡ start) → (a : Attribute) × Comes bytes consts at (attribute_parts a) (Err (Truncated cut))
+attribute_cut {bytes = bytes} {consts = consts} {at = at} {start = start} {name = name} {len = len} {cut = cut} named there start_is fits short =
     let zeros : List ℕ = copies len 0 in
     let e = length-copies {A = ℕ} len 0 in
     let length_stands = u4_comes (rw e there) start_is (rw e fits) tt in
-    (record { name = name; bytes = zeros }, then named (then length_stands (record { goes = inl (rw e cut) })))
+    (record { name = name; bytes = zeros }, then named (then length_stands (record { goes = inl (rw e short.0, ap Truncated short.1) })))

@@ -5,16 +5,12 @@ use Rattle.je_consts.specs.declared.place.Place.{Place}
 use Rattle.je_consts.specs.declared.fault.ConstFault.{ConstFault}
 use Rattle.je_consts.specs.declared.fault.ConstFault.TheVariants as pool
 use Rattle.je_consts.specs.Faults as in_pool
-use Rattle.je_consts.specs.Layout.{u2, u4}
+use Rattle.je_base.specs.Bytes.{u2, u4, IsThere}
 use Rattle.je_class.specs.declared.fault.ClassFault.{ClassFault}
 use Rattle.je_class.specs.declared.fault.ClassFault.TheVariants.{TooLong, Truncated, BadConst, Trailing, Memory}
 use Rattle.je_class.specs.Class.{Class}
 use Rattle.je_class.specs.ClassBytes.{ClassBytes}
 use Rattle.je_class.specs.FileParts.{Test, Passes, fault_of, Part, U2, U4, Run, Pool, part_bytes, IsSoundPart, parts}
-
--- the bytes stand at an offset
-abbrev pub IsThere : List ℕ → ℕ → List ℕ → Type 0
-IsThere bytes at text = drop at bytes ≡ text ++ drop (at + length text) bytes
 
 -- fewer bytes are left than a part has
 abbrev pub IsCut : List ℕ → ℕ → ℕ → ClassFault → Type 0

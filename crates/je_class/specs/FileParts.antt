@@ -3,7 +3,8 @@ use Rattle.std.specs.Prelude.{◌≡◌, ℕ, ◌^◌, ◌<◌, ◌≤◌, ◌�
 use Rattle.std.specs.List.{AllByRecursion}
 use Rattle.je_consts.specs.declared.place.Place.{Place}
 use Rattle.je_consts.specs.Pool.{text_at, IsPool}
-use Rattle.je_consts.specs.Layout.{u2, u4, pool_layout}
+use Rattle.je_base.specs.Bytes.{u2, u4}
+use Rattle.je_consts.specs.Layout.{pool_layout}
 use Rattle.je_desc.specs.Descriptor.{FieldDescriptor}
 use Rattle.je_class.specs.declared.fault.ClassFault.{ClassFault}
 use Rattle.je_class.specs.declared.fault.ClassFault.TheVariants.{BadMagic, Version, BadIndex, BadDescriptor, BadAttribute}

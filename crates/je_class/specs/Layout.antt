@@ -1,7 +1,8 @@
 -- The bytes of a class file, structure after structure (JVMS 4.1 and 4.5 to 4.7), as they are put.
 use Rattle.std.specs.Prelude.{ℕ, ◌^◌, ◌<◌, List, ◌++◌, length}
 use Rattle.std.specs.List.{AllByRecursion}
-use Rattle.je_consts.specs.Layout.{u2, u4, table, attribute_info, pool_layout}
+use Rattle.je_base.specs.Bytes.{u2, u4, table, attribute_info}
+use Rattle.je_consts.specs.Layout.{pool_layout}
 use Rattle.je_class.specs.declared.member.Attribute.{Attribute}
 use Rattle.je_class.specs.declared.member.Member.{Member}
 use Rattle.je_class.specs.Class.{Class}

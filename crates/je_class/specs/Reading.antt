@@ -1,5 +1,6 @@
 -- Reading from left to right: which parts stand at an offset, or the first one that does not.
 use Rattle.std.specs.Prelude.{◌≡◌, ℕ, ◌+◌, ◌⊎◌, List, [], ◌∷◌, ◌++◌, length, Result, Ok, Err}
+use Rattle.je_base.specs.Bytes.{IsThere}
 use Rattle.je_consts.specs.declared.place.Place.{Place}
 use Rattle.je_class.specs.declared.check.Sought.{Sought}
 use Rattle.je_class.specs.declared.check.Sought.TheVariants as sought
@@ -11,7 +12,7 @@ use Rattle.je_class.specs.declared.member.Attribute.{Attribute}
 use Rattle.je_class.specs.declared.member.Member.{Member}
 use Rattle.je_class.specs.Class.{Class}
 use Rattle.je_class.specs.FileParts.{Test, IsMagic, IsVersion, NamesClass, NamesSuper, NamesText, NamesAttribute, DescribesField, DescribesMethod, Part, U2, U4, part_bytes, IsSoundPart, table_parts, interface_parts, attribute_parts, field_parts, method_parts, parts, class_parts}
-use Rattle.je_class.specs.Faults.{IsThere, Breaks}
+use Rattle.je_class.specs.Faults.{Breaks}
 
 -- the parts stand one after the other, from one offset to another
 abbrev pub Follows : List ℕ → List Place → ℕ → List Part → ℕ → Type 0

@@ -10,7 +10,7 @@ ghost use Rattle.je_class.specs.Faults.{FailsFirst};
 ghost use Rattle.je_class.specs.Reading.{Reads, tests_of, index_parts};
 
 use crate::fault::ClassFault;
-use crate::fields::u16_at;
+use je_base::u16_at;
 use je_consts::Consts;
 use je_desc::{is_class_name, is_field, units};
 

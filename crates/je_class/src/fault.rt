@@ -3,6 +3,7 @@
 ghost use Rattle.std.specs.Prelude.{◌≡◌};
 ghost use Rattle.je_class.specs.declared.fault.ClassFault.TheVariants as faults;
 
+use je_base::Cut;
 use std::alloc::{AllocError, AllocFailed};
 use thiserror::Error;
 
@@ -42,6 +43,14 @@ pub enum ClassFault {
     /// There was not enough memory.
     #[error("out of memory")]
     Memory,
+}
+
+impl From<Cut> for ClassFault {
+    ghost from_gives = { λ cut e. e ≡ faults.Truncated cut.0 };
+
+    fn from(cut: Cut) -> ClassFault {
+        ClassFault::Truncated(cut.0)
+    }
 }
 
 impl From<AllocError> for ClassFault {

@@ -10,6 +10,7 @@ ghost use Rattle.je_class.specs.Faults.{FirstFault};
 ghost use Rattle.je_class.specs.FileParts.{IsSound};
 ghost use Rattle.je_class.specs.Grown.{NamesStay};
 
+use je_base::one_reading;
 use je_consts::one_pool;
 
 /// Bytes are one class file or have one first fault.
@@ -21,7 +22,8 @@ pub fn one_class()
     ensures one_fault { (bytes : List ℕ) (d e : ClassFault) →
         FirstFault bytes d → FirstFault bytes e → d ≡ e }
 {
-    // The law of the layer below that the proof stands on.
+    // The laws of the layers below that the proof stands on.
+    one_reading();
     one_pool();
 }
 

@@ -8,7 +8,6 @@ mod check;
 mod class_file;
 mod copying;
 mod fault;
-mod fields;
 mod laws;
 mod member;
 mod members;

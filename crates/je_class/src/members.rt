@@ -6,8 +6,8 @@ ghost use Rattle.je_class.specs.Reading.{Reads, descriptor_of, parts_of_kind};
 
 use crate::check::{Sought, index_at};
 use crate::fault::ClassFault;
-use crate::fields::{run_at, u16_at, u32_at};
 use crate::member::{Attribute, Member};
+use je_base::{run_at, u16_at, u32_at};
 use je_consts::Consts;
 use sqlite_items::Items;
 use std::alloc::Global;
@@ -59,7 +59,7 @@ fn attribute_at(
 {
     let (name, at) = index_at(consts, Sought::AttributeName, bytes, at)?;
     let (len, at) = u32_at(bytes, at)?;
-    let (run, at) = run_at(len as usize, bytes, at)?;
+    let (run, at) = run_at(bytes, at, len as usize)?;
     let bytes = Items::from_slice(alloc, run)?;
     Ok((Attribute { name, bytes }, at))
 }

@@ -13,10 +13,10 @@ ghost use Rattle.je_class.specs.Reading.{Reads, ReadsClass, start_parts, own_par
 use crate::check::{Sought, index_at};
 use crate::class_file::ClassFile;
 use crate::fault::{ClassFault, MOST_BYTES};
-use crate::fields::{u16_at, u32_at};
 use crate::member::{Attribute, Member};
 use crate::members::{Kind, attributes_at, interfaces_at, members_at};
 use crate::parts::Parts;
+use je_base::{one_reading, u16_at, u32_at};
 use je_consts::{ConstFault, Consts, one_pool};
 use std::alloc::Global;
 
@@ -146,7 +146,8 @@ pub fn read_class(alloc: Global, bytes: &[u8]) -> Result<ClassFile, ClassFault>
     ensures exact { (d : ClassFault) → FirstFault bytes.now d →
         MatchResult result (λ _. ⊥) (λ e. (e ≡ ClassFault.Memory) ⊎ (e ≡ d)) }
 {
-    // The law of the layer below that the proof stands on.
+    // The laws of the layers below that the proof stands on.
+    one_reading();
     one_pool();
 
     if bytes.len() > MOST_BYTES {

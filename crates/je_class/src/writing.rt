@@ -1,7 +1,8 @@
 //! The bytes of a class file (JVMS 4.1).
 
 ghost use Rattle.std.specs.Prelude.{◌≡◌, ℕ, ◌^◌, ◌<◌, List, ◌++◌, length, IfOk, OnOk};
-ghost use Rattle.je_consts.specs.Layout.{u2, u4, table, pool_layout};
+ghost use Rattle.je_base.specs.Bytes.{u2, table};
+ghost use Rattle.je_consts.specs.Layout.{pool_layout};
 ghost use Rattle.je_class.specs.ClassBytes.{ClassBytes};
 ghost use Rattle.je_class.specs.InMemory.{class_of_parts};
 ghost use Rattle.je_class.specs.Layout.{attribute_layout, member_layout, head_layout, numbers_layout, tables_layout, class_layout, FitsTable, FitsAttribute, FitsMember, FitsClass};
@@ -9,26 +10,12 @@ ghost use Rattle.je_class.specs.Layout.{attribute_layout, member_layout, head_la
 use crate::class_file::ClassFile;
 use crate::member::{Attribute, Member};
 use crate::parts::Parts;
-use je_base::Memory;
+use je_base::{Memory, put_u16, put_u32};
 use je_consts::Consts;
 use std::alloc::Global;
 
 /// The first bytes of each class file.
 const MAGIC: u32 = 0xcafe_babe;
-
-fn put_u16(out: &mut Vec<u8>, n: u16) -> Result<(), Memory>
-    ensures { OnOk result (out.new.items ≡ out.old.items ++ u2 n) }
-{
-    out.extend_from_slice(&n.to_be_bytes())?;
-    Ok(())
-}
-
-fn put_u32(out: &mut Vec<u8>, n: u32) -> Result<(), Memory>
-    ensures { OnOk result (out.new.items ≡ out.old.items ++ u4 n) }
-{
-    out.extend_from_slice(&n.to_be_bytes())?;
-    Ok(())
-}
 
 fn put_consts(out: &mut Vec<u8>, consts: &Consts) -> Result<(), Memory>
     ensures { OnOk result (out.new.items ≡ out.old.items ++ pool_layout consts.now) }

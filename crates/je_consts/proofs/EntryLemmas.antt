@@ -12,7 +12,8 @@ use Rattle.je_consts.specs.declared.fault.ConstFault.TheVariants.{Truncated, Bad
 use Rattle.je_consts.specs.declared.constant.Const.{Const}
 use Rattle.je_consts.specs.declared.constant.Const.TheVariants.{Utf8, Integer, Float, Long, Double, Class, Str, Field, Method, InterfaceMethod, NameAndType, MethodHandle, MethodType, InvokeDynamic}
 use Rattle.je_consts.specs.Pool.{tag, Fits}
-use Rattle.je_consts.specs.Layout.{u1, u2, fields, joined, const_layout}
+use Rattle.je_base.specs.Bytes.{u1, u2}
+use Rattle.je_consts.specs.Layout.{fields, joined, const_layout}
 use Rattle.je_consts.specs.Faults.{EndsWithin, IsNoEntry, unknown_tag, no_text, no_kind}
 use Rattle.je_consts.specs.Reading.{◌>>=◌, between, is_text, integer_of, long_of, byte_at, number_at, run_at, one_at, two_at, utf8_at, handle_at, info_at, entry_at}
 use Rattle.je_consts.proofs.Texts.{between-true, true-between, outside, IsModifiedUtf8-from_test, is_text-true}

@@ -12,7 +12,8 @@ use Rattle.je_consts.specs.declared.constant.Const.TheVariants.{Utf8, Integer, F
 use Rattle.je_consts.specs.declared.place.Place.{Place}
 use Rattle.je_consts.specs.declared.place.Place.TheVariants.{Entry, Second}
 use Rattle.je_consts.specs.Pool.{tag, is_wide, leads_second, Fits, OfEntry, IsSpaced, IsLeastMisfit}
-use Rattle.je_consts.specs.Layout.{u1, u2, fields, joined, const_layout, place_layout, entries_layout}
+use Rattle.je_base.specs.Bytes.{u1, u2}
+use Rattle.je_consts.specs.Layout.{fields, joined, const_layout, place_layout, entries_layout}
 use Rattle.je_consts.specs.Faults.{EndsWithin, IsNoEntry, unknown_tag, no_text, no_kind, Reaches, FirstFault, count_cut, count_zero, entry_cut, no_entry, no_second, misfit}
 use Rattle.je_consts.specs.Reading.{◌>>=◌, between, byte_at, number_at, run_at, integer_of, long_of, one_at, two_at, utf8_at, handle_at, info_at, entry_at, place_at, places_at, spelled_at}
 use Rattle.je_consts.proofs.Texts.{between-true, true-between, is_text-false}

@@ -10,7 +10,8 @@ use Rattle.je_consts.specs.declared.constant.Const.{Const}
 use Rattle.je_consts.specs.declared.place.Place.{Place}
 use Rattle.je_consts.specs.declared.place.Place.TheVariants.{Entry, Second}
 use Rattle.je_consts.specs.Pool.{is_wide, leads_second, places_of, taken_by, Fits, OfEntry, IsLeastMisfit}
-use Rattle.je_consts.specs.Layout.{u2, const_layout, place_layout, entries_layout}
+use Rattle.je_base.specs.Bytes.{u2}
+use Rattle.je_consts.specs.Layout.{const_layout, place_layout, entries_layout}
 use Rattle.je_consts.specs.Faults.{Reaches, FirstFault, count_cut, count_zero, entry_cut, no_entry, no_second, misfit}
 use Rattle.je_consts.specs.Reading.{◌>>=◌, number_at, entry_at, place_at, places_at, spelled_at}
 use Rattle.je_consts.proofs.FieldLemmas.{IsBytes, bind_ok, bind_err, chosen, ok_is, err_is, Spells, wide16, number_takes, number_cut}

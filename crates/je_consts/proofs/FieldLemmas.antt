@@ -6,7 +6,7 @@ use Rattle.std.proofs.lemmas.List.{take_at, drop_at, drop-drop, take-append-drop
 use Rattle.std.proofs.lemmas.Nat.{be_bytes_2, be_bytes_4, be_bytes_8, from_be_bytes-to_be_bytes_2, from_be_bytes-to_be_bytes_4, from_be_bytes-to_be_bytes_8}
 use Rattle.je_consts.specs.declared.fault.ConstFault.{ConstFault}
 use Rattle.je_consts.specs.declared.fault.ConstFault.TheVariants.{Truncated}
-use Rattle.je_consts.specs.Layout.{u1}
+use Rattle.je_base.specs.Bytes.{u1}
 use Rattle.je_consts.specs.Reading.{◌>>=◌, byte_of, byte_at, number_at, run_at}
 
 -- ---- what a step gave

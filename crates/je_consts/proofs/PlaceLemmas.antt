@@ -9,7 +9,8 @@ use Rattle.je_consts.specs.declared.constant.Const.{Const}
 use Rattle.je_consts.specs.declared.place.Place.{Place}
 use Rattle.je_consts.specs.declared.place.Place.TheVariants.{Entry, Second}
 use Rattle.je_consts.specs.Pool.{is_wide, leads_second, Fits, OfEntry, IsSpaced}
-use Rattle.je_consts.specs.Layout.{u2, const_layout, place_layout, entries_layout, pool_layout}
+use Rattle.je_base.specs.Bytes.{u2}
+use Rattle.je_consts.specs.Layout.{const_layout, place_layout, entries_layout, pool_layout}
 use Rattle.je_consts.specs.Reading.{◌>>=◌, number_at, entry_at, place_at, places_at, spelled_at}
 use Rattle.je_consts.proofs.FieldLemmas.{Read, IsBytes, bind_ok, chosen, ok_is, Spells, Spells-then, behind, wide16, number_takes, number_again}
 use Rattle.je_consts.proofs.EntryLemmas.{entry_takes, entry_again}

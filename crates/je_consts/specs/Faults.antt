@@ -1,13 +1,14 @@
 -- The first test that fails where bytes are no constant pool.
 use Rattle.std.specs.Prelude.{◌≡◌, ℕ, ◌+◌, ◌<◌, ◌^◌, ◌⊎◌, true, false, List, ◌∷◌, ◌++◌, length, drop}
 use Rattle.std.specs.List.{AllByRecursion}
+use Rattle.je_base.specs.Bytes.{u2}
 use Rattle.je_base.specs.Text.{IsModifiedUtf8}
 use Rattle.je_consts.specs.declared.constant.Const.{Const}
 use Rattle.je_consts.specs.declared.fault.ConstFault.{ConstFault}
 use Rattle.je_consts.specs.declared.fault.ConstFault.TheVariants.{Truncated, BadConst}
 use Rattle.je_consts.specs.declared.place.Place.{Place}
 use Rattle.je_consts.specs.Pool.{tag, is_wide, Fits, OfEntry, IsSpaced, IsLeastMisfit}
-use Rattle.je_consts.specs.Layout.{u2, fields, joined, const_layout, entries_layout}
+use Rattle.je_consts.specs.Layout.{fields, joined, const_layout, entries_layout}
 
 -- The bytes end within a field of the constant: its first fields stand there, and then fewer bytes than the next
 -- field has, which begins after `offset` bytes.

@@ -1,24 +1,13 @@
 -- The bytes of a constant pool, part after part (JVMS 4.4). Numbers are big-endian.
 use Rattle.std.specs.Prelude.{◌≡◌, ℕ, ◌+◌, ◌≤◌, List, [], ◌∷◌, ◌++◌, length, slice_range}
 use Rattle.std.specs.List.{flat_map}
-use Rattle.std.specs.Int.{w16, w32, w64, to_be_bytes, cast_unsigned}
+use Rattle.std.specs.Int.{w32, w64, cast_unsigned}
+use Rattle.je_base.specs.Bytes.{u1, u2, u4, u8}
 use Rattle.je_consts.specs.declared.constant.Const.{Const}
 use Rattle.je_consts.specs.declared.constant.Const.TheVariants.{Utf8, Integer, Float, Long, Double, Class, Str, Field, Method, InterfaceMethod, NameAndType, MethodHandle, MethodType, InvokeDynamic}
 use Rattle.je_consts.specs.declared.place.Place.{Place}
 use Rattle.je_consts.specs.declared.place.Place.TheVariants.{Entry, Second}
 use Rattle.je_consts.specs.Pool.{IsPool}
-
-abbrev pub u1 : ℕ → List ℕ
-u1 n = n ∷ []
-
-abbrev pub u2 : ℕ → List ℕ
-u2 n = to_be_bytes w16 n
-
-abbrev pub u4 : ℕ → List ℕ
-u4 n = to_be_bytes w32 n
-
-abbrev pub u8 : ℕ → List ℕ
-u8 n = to_be_bytes w64 n
 
 -- The parts of cp_info (JVMS 4.4), each a number or a run of bytes: a tag, and what the tag says.
 abbrev pub fields : Const → List (List ℕ)
@@ -53,14 +42,6 @@ place_layout Second = []
 
 abbrev pub entries_layout : List Place → List ℕ
 entries_layout places = flat_map place_layout places
-
--- a count, and that many structures (JVMS 4)
-abbrev pub table : {A : Type 0} → (A → List ℕ) → List A → List ℕ
-table layout items = u2 (length items) ++ flat_map layout items
-
--- attribute_info (JVMS 4.7): the index of its name, and its bytes behind their length
-abbrev pub attribute_info : ℕ → List ℕ → List ℕ
-attribute_info name bytes = u2 name ++ (u4 (length bytes) ++ bytes)
 
 -- constant_pool_count and constant_pool (JVMS 4.1)
 abbrev pub pool_layout : List Place → List ℕ

@@ -5,8 +5,7 @@ ghost use Rattle.je_consts.specs.Reading.{Gives, integer_of, long_of, text_from,
 
 use crate::constant::Const;
 use crate::fault::ConstFault;
-use crate::fields::{run_at, u8_at, u16_at, u32_at, u64_at};
-use je_base::Text;
+use je_base::{Text, run_at, u8_at, u16_at, u32_at, u64_at};
 use std::alloc::Global;
 
 /// The text of these bytes, which the entry of this index has.
@@ -24,7 +23,7 @@ fn utf8_of(alloc: Global, index: u16, bytes: &[u8], at: usize) -> Result<(Const,
     ensures { Gives (λ x. x) result (utf8_at index bytes.now at) }
 {
     let (len, at) = u16_at(bytes, at)?;
-    let (run, at) = run_at(len as usize, bytes, at)?;
+    let (run, at) = run_at(bytes, at, len as usize)?;
     let text = text_of(alloc, index, run)?;
     Ok((Const::Utf8(text), at))
 }

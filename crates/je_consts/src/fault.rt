@@ -4,6 +4,7 @@ ghost use Rattle.std.specs.Prelude.{◌≡◌};
 ghost use Rattle.je_consts.specs.declared.fault.ConstFault.TheVariants as faults;
 ghost use Rattle.je_consts.specs.declared.fault.PoolStop.TheVariants as stops;
 
+use je_base::{Cut, Memory};
 use std::alloc::{AllocError, AllocFailed};
 use thiserror::Error;
 
@@ -32,6 +33,14 @@ pub enum PoolStop {
     Memory,
 }
 
+impl From<Cut> for ConstFault {
+    ghost from_gives = { λ cut e. e ≡ faults.Truncated cut.0 };
+
+    fn from(cut: Cut) -> ConstFault {
+        ConstFault::Truncated(cut.0)
+    }
+}
+
 impl From<AllocError> for ConstFault {
     ghost from_gives = { λ _ e. e ≡ faults.Memory };
 
@@ -48,10 +57,10 @@ impl<T: Drop> From<AllocFailed<T>> for ConstFault {
     }
 }
 
-impl From<je_base::Memory> for ConstFault {
+impl From<Memory> for ConstFault {
     ghost from_gives = { λ _ e. e ≡ faults.Memory };
 
-    fn from(_e: je_base::Memory) -> ConstFault {
+    fn from(_e: Memory) -> ConstFault {
         ConstFault::Memory
     }
 }
@@ -72,10 +81,10 @@ impl<T: Drop> From<AllocFailed<T>> for PoolStop {
     }
 }
 
-impl From<je_base::Memory> for PoolStop {
+impl From<Memory> for PoolStop {
     ghost from_gives = { λ _ e. e ≡ stops.Memory };
 
-    fn from(_e: je_base::Memory) -> PoolStop {
+    fn from(_e: Memory) -> PoolStop {
         PoolStop::Memory
     }
 }

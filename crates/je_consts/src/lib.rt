@@ -12,7 +12,6 @@ mod consts;
 mod copying;
 mod entries;
 mod fault;
-mod fields;
 mod laws;
 mod lookup;
 mod place;

@@ -12,8 +12,8 @@ use crate::check::misfit;
 use crate::constant::Const;
 use crate::entries::entry_of;
 use crate::fault::ConstFault;
-use crate::fields::u16_at;
 use crate::place::Place;
+use je_base::u16_at;
 use std::alloc::Global;
 
 /// Whether the place is that of a Long or Double.

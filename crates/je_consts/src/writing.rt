@@ -2,21 +2,15 @@
 
 ghost use Rattle.std.specs.Prelude.{◌≡◌, ◌+◌, ◌^◌, ◌<◌, ◌++◌, length, IfOk, OnOk};
 ghost use Rattle.std.specs.List.{AllByRecursion};
-ghost use Rattle.je_consts.specs.Layout.{u2, const_layout, place_layout, entries_layout, pool_layout};
+ghost use Rattle.je_base.specs.Bytes.{u2};
+ghost use Rattle.je_consts.specs.Layout.{const_layout, place_layout, entries_layout, pool_layout};
 ghost use Rattle.je_consts.specs.Pool.{Fits, OfEntry};
 
 use crate::constant::Const;
 use crate::lookup::tag_of;
 use crate::place::Place;
-use je_base::{Memory, Text};
+use je_base::{Memory, Text, put_u16, put_u32, put_u64};
 use std::alloc::Global;
-
-fn put_u16(out: &mut Vec<u8>, n: u16) -> Result<(), Memory>
-    ensures { OnOk result (out.new.items ≡ out.old.items ++ u2 n) }
-{
-    out.extend_from_slice(&n.to_be_bytes())?;
-    Ok(())
-}
 
 fn put_two(out: &mut Vec<u8>, first: u16, second: u16) -> Result<(), Memory>
     ensures { OnOk result (out.new.items ≡ out.old.items ++ (u2 first ++ u2 second)) }
@@ -43,10 +37,10 @@ fn put_const(out: &mut Vec<u8>, entry: &Const) -> Result<(), Memory>
     out.push(tag_of(entry))?;
     match entry {
         Const::Utf8(text) => put_text(out, text)?,
-        Const::Integer(n) => out.extend_from_slice(&n.to_be_bytes())?,
-        Const::Float(bits) => out.extend_from_slice(&bits.to_be_bytes())?,
-        Const::Long(n) => out.extend_from_slice(&n.to_be_bytes())?,
-        Const::Double(bits) => out.extend_from_slice(&bits.to_be_bytes())?,
+        Const::Integer(n) => put_u32(out, n.cast_unsigned())?,
+        Const::Float(bits) => put_u32(out, *bits)?,
+        Const::Long(n) => put_u64(out, n.cast_unsigned())?,
+        Const::Double(bits) => put_u64(out, *bits)?,
         Const::Class(text) | Const::Str(text) | Const::MethodType(text) => put_u16(out, *text)?,
         Const::Field(first, second)
         | Const::Method(first, second)

@@ -1,6 +1,6 @@
 -- The content of a Code attribute and the parts of it.
 use Rattle.std.proofs.Common.{◌≡◌, ℕ, List, [], ◌∷◌, ◌++◌, length, Some, sym, ap, subst, ◌∙◌, arith}
-use Rattle.je_consts.specs.Layout.{u2, u4, table}
+use Rattle.je_base.specs.Bytes.{u2, u4, table}
 use Rattle.je_instr.specs.declared.instr.Instr.{Instr}
 use Rattle.je_instr.specs.declared.code.MethodCode.{MethodCode}
 use Rattle.je_instr.specs.Spelling.{code_bytes}

@@ -5,7 +5,7 @@ use Rattle.std.specs.Int.{w16, from_be_bytes}
 use Rattle.std.proofs.lemmas.Bool.{eqb-true}
 use Rattle.std.proofs.lemmas.List.{append-nil}
 use Rattle.std.proofs.lemmas.Nat.{be_bytes_2, from_be_bytes-to_be_bytes_2}
-use Rattle.je_consts.specs.Layout.{u2}
+use Rattle.je_base.specs.Bytes.{u2}
 use Rattle.je_instr.specs.declared.instr.Instr.{Instr}
 use Rattle.je_instr.specs.declared.instr.Instr.TheVariants.{Nop, Return, InvokeStatic}
 use Rattle.je_instr.specs.Spelling.{instr_bytes, code_bytes, FitsInstr}

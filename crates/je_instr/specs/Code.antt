@@ -1,7 +1,7 @@
 -- The Code attribute (JVMS 4.7.3).
 use Rattle.std.specs.Prelude.{◌≡◌, ℕ, ◌^◌, ◌<◌, List, ◌++◌, length}
 use Rattle.std.specs.List.{AllByRecursion}
-use Rattle.je_consts.specs.Layout.{u2, u4, table, attribute_info}
+use Rattle.je_base.specs.Bytes.{u2, u4, table, attribute_info}
 
 -- an entry of the exception table, with byte offsets and the index of the class that is caught, or 0
 pub record RawHandler : Type 0 where

@@ -1,7 +1,7 @@
 -- Instructions as bytes (JVMS 6.5).
 use Rattle.std.specs.Prelude.{ℕ, ◌^◌, ◌<◌, List, [], ◌∷◌}
 use Rattle.std.specs.List.{flat_map}
-use Rattle.je_consts.specs.Layout.{u2}
+use Rattle.je_base.specs.Bytes.{u2}
 use Rattle.je_instr.specs.declared.instr.Instr.{Instr}
 use Rattle.je_instr.specs.declared.instr.Instr.TheVariants.{Nop, Return, InvokeStatic}
 

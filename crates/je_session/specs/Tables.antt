@@ -5,7 +5,7 @@ use Rattle.std.specs.Prelude.{◌≡◌, ℕ, ◌+◌, ◌-◌, ◌^◌, ◌<◌
 use Rattle.std.specs.List.{list_any, position_or_len, range_with_len}
 use Rattle.std.specs.Option.{option_map_or}
 use Rattle.je_consts.specs.declared.place.Place.{Place}
-use Rattle.je_consts.specs.Layout.{u2, table}
+use Rattle.je_base.specs.Bytes.{u2, table}
 use Rattle.je_consts.specs.Pool.{text_at}
 use Rattle.je_instr.specs.declared.instr.Instr.{Instr}
 use Rattle.je_instr.specs.Code.{AttributeInfo, FitsTable}

@@ -1,4 +1,4 @@
-use Rattle.std.proofs.Common.{[], inr}
+use Rattle.std.proofs.Common.{[], inr, arith}
 use Rattle.std.proofs.lemmas.Result.{err_from_is_err_and}
 use Rattle.je_class.proofs.Comes.{or_memory, then, stops, u4_cut}
 use Rattle.je_class.proofs.Tables.{attribute_cut}
@@ -17,4 +17,4 @@ returns-in_err-len c =
 pub returns-in_err-run : goal.returns-in_err-run
 returns-in_err-run c =
     let p = err_from_is_err_and c.from_residual-in_err-run.result c.from_residual-in_err-run.ensures.1 in
-    rw (p.1, p.2) (inr (attribute_cut c.in_ok-name.ensures c.in_ok-len.ensures.there c.in_ok-len.ensures.end c.in_ok-len.ensures.fits c.in_err-run.ensures.cut))
+    rw (p.1, p.2) (inr (attribute_cut c.in_ok-name.ensures c.in_ok-len.ensures.there c.in_ok-len.ensures.end (omega arith) c.in_err-run.ensures.cut))

@@ -1,4 +1,4 @@
-use Rattle.std.proofs.Common.{[], inr}
+use Rattle.std.proofs.Common.{[], inr, arith}
 use Rattle.std.proofs.lemmas.Result.{err_from_is_err_and}
 use Rattle.je_class.proofs.Comes.{or_memory, then, stops, u2_comes, u2_cut}
 use Rattle.je_class.proofs.reading.own_at.Goals as goal
@@ -11,9 +11,9 @@ returns-in_err-access c =
 pub returns-in_err-this_class : goal.returns-in_err-this_class
 returns-in_err-this_class c =
     let p = err_from_is_err_and c.from_residual-in_err-this_class.result c.from_residual-in_err-this_class.ensures.1 in
-    rw (p.1, p.2) (or_memory c.in_err-this_class.ensures (λ h. ((c.in_ok-access.access, h.0, 0), then (u2_comes c.in_ok-access.ensures.there c.in_ok-access.ensures.end c.in_ok-access.ensures.fits tt) (stops _ h.1))))
+    rw (p.1, p.2) (or_memory c.in_err-this_class.ensures (λ h. ((c.in_ok-access.access, h.0, 0), then (u2_comes c.in_ok-access.ensures.there c.in_ok-access.ensures.end (omega arith) tt) (stops _ h.1))))
 
 pub returns-in_err-super_class : goal.returns-in_err-super_class
 returns-in_err-super_class c =
     let p = err_from_is_err_and c.from_residual-in_err-super_class.result c.from_residual-in_err-super_class.ensures.1 in
-    rw (p.1, p.2) (or_memory c.in_err-super_class.ensures (λ h. ((c.in_ok-access.access, c.in_ok-this_class.this_class, h.0), then (u2_comes c.in_ok-access.ensures.there c.in_ok-access.ensures.end c.in_ok-access.ensures.fits tt) (then c.in_ok-this_class.ensures h.1))))
+    rw (p.1, p.2) (or_memory c.in_err-super_class.ensures (λ h. ((c.in_ok-access.access, c.in_ok-this_class.this_class, h.0), then (u2_comes c.in_ok-access.ensures.there c.in_ok-access.ensures.end (omega arith) tt) (then c.in_ok-this_class.ensures h.1))))

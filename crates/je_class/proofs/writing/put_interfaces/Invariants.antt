@@ -1,6 +1,6 @@
 use Rattle.std.proofs.Common.{◌≡◌, ◌++◌, length, take}
 use Rattle.std.specs.List.{flat_map}
-use Rattle.je_consts.specs.Layout.{u2}
+use Rattle.je_base.specs.Bytes.{u2}
 use Rattle.je_class.proofs.writing.put_interfaces.Given as goal
 
 abbrev pub invariant-loop-index : goal.invariant-loop-index

@@ -1,6 +1,6 @@
 use Rattle.std.proofs.Common.{◌≡◌, ◌++◌, length, take}
 use Rattle.std.specs.List.{flat_map}
-use Rattle.je_consts.specs.Layout.{u2}
+use Rattle.je_base.specs.Bytes.{u2}
 use Rattle.je_class.specs.Layout.{member_layout}
 use Rattle.je_class.proofs.writing.put_members.Given as goal
 

@@ -1,5 +1,6 @@
 use Rattle.std.proofs.Common.{◌≡◌, ◌+◌, ◌++◌, length, take}
-use Rattle.je_consts.specs.Layout.{u2, entries_layout}
+use Rattle.je_base.specs.Bytes.{u2}
+use Rattle.je_consts.specs.Layout.{entries_layout}
 use Rattle.je_consts.proofs.writing.bytes_of.Given as goal
 
 abbrev pub invariant-loop-place : goal.invariant-loop-place

@@ -1,6 +1,6 @@
 use Rattle.std.proofs.Common.{◌≤◌, length, drop, ap, arith}
-use Rattle.je_class.proofs.Comes.{there_4}
-use Rattle.je_class.proofs.fields.u32_at.Goals as goal
+use Rattle.je_base.proofs.BytesLemmas.{there_4}
+use Rattle.je_base.proofs.bytes.u32_at.Goals as goal
 
 pub returns-clause-there : goal.returns-clause-there
 returns-clause-there c =
