@@ -89,6 +89,7 @@ impl<R: rt::Files> Files for FsFiles<R> {
         // What each read does.
         ensures within { IfOk result (λ found. IfSome found (λ bytes. vec_len bytes ≤ limit)) }
         ensures counted { self.new.reads ≡ raised self.old.reads }
+        ensures reads { self.old.reads ≤ self.new.reads }
         ensures writes { self.new.writes ≡ self.old.writes }
         ensures faults { self.old.faults ≤ self.new.faults }
         ensures failed { IsErrOf result FileStop.Failed → HasFault self.old.faults self.new.faults }
@@ -108,6 +109,7 @@ impl<R: rt::Files> Files for FsFiles<R> {
 
         // What each write does.
         ensures counted { self.new.writes ≡ raised self.old.writes }
+        ensures writes { self.old.writes ≤ self.new.writes }
         ensures reads { self.new.reads ≡ self.old.reads }
         ensures faults { self.old.faults ≤ self.new.faults }
         ensures failed { OnErr result (HasFault self.old.faults self.new.faults) }
