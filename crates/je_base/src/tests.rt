@@ -181,6 +181,26 @@ fn a_written_file_is_read(rt: HostRuntime) -> Result<(), Fail> {
 }
 
 #[test]
+fn a_long_file_is_written_and_read_whole(rt: HostRuntime) -> Result<(), Fail> {
+    let mut bytes = Vec::new(rt.alloc());
+    for i in 0..0x10_0000u32 {
+        bytes.push((i % 251) as u8)?;
+    }
+    let mut files = FsFiles::new(rt.alloc(), rt.clone()?);
+    assert!(rt; files.write("je_base_long/a", &bytes) == Ok(()));
+    for limit in [0, 0x1_0000, 0x1_0001, 0x10_0000, usize::MAX] {
+        let front = &bytes[..limit.min(bytes.len())];
+        let read = files.read("je_base_long/a", limit);
+        assert!(rt;
+            matches!(&read, Ok(Some(found)) if found.as_slice() == front),
+            "at {limit}"
+        );
+    }
+    fs::remove_dir_all(&rt, "je_base_long")?;
+    Ok(())
+}
+
+#[test]
 fn streams_take_pieces(rt: HostRuntime) {
     let mut output = StdSink::output(rt.stdout());
     assert!(rt; output.put(b"one line\n") == Ok(()));
