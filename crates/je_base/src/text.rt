@@ -12,7 +12,7 @@ ghost use Rattle.std.specs.String.{string_bytes};
 ghost use Rattle.je_base.specs.Encoding.{encoding};
 ghost use Rattle.je_base.specs.Text.{IsModifiedUtf8, is_same_text};
 ghost use Rattle.je_base.specs.Shown.{shown};
-ghost use Rattle.je_base.specs.Units.{Follows};
+ghost use Rattle.je_base.specs.Units.{Follows, SkipsSingles, are_singles};
 
 use crate::encoding::encode_text;
 use crate::shown::show;
@@ -146,13 +146,42 @@ fn is_modified_utf8(bytes: &[u8]) -> bool
     ensures { IsTrue result ↔ IsModifiedUtf8 bytes.now }
 {
     let mut wanted = 0;
-    for byte in bytes {
+    let mut left = past_singles(bytes);
+    while let Some((byte, rest)) = left.split_first() {
         match wanted_after(wanted, *byte) {
             Some(after) => wanted = after,
             None => return false,
         }
+        left = if wanted == 0 {
+            past_singles(rest)
+        } else {
+            rest
+        };
     }
     wanted == 0
+}
+
+/// What is left after bytes that are units by themselves, which are taken eight at a time.
+fn past_singles(bytes: &[u8]) -> &[u8]
+    ensures { SkipsSingles bytes.now result.now }
+{
+    let mut left = bytes;
+    while let Some((block, rest)) = left.split_first_chunk::<8>() {
+        if !are_singles(block) {
+            break;
+        }
+        left = rest;
+    }
+    left
+}
+
+/// Whether each of eight bytes is a unit by itself. All of them are looked at, which is faster.
+fn are_singles(block: &[u8; 8]) -> bool
+    ensures { result ≡ are_singles block.now }
+{
+    block
+        .iter()
+        .fold(true, |all, byte| all & (*byte >= 0x01) & (*byte <= 0x7f))
 }
 
 /// How many continuations are wanted after a byte, where so many were wanted before it, or `None` where
