@@ -4,3 +4,4 @@ pub mod EncodingLemmas
 pub mod ShownLemmas
 pub mod StoreLemmas
 pub mod FilesLemmas
+pub mod StreamLemmas

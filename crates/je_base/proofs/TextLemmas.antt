@@ -1,9 +1,9 @@
 -- What is read a byte at a time is modified UTF-8, and the other way round.
-use Rattle.std.proofs.Common.{◌≡◌, ℕ, ◌<◌, get_or, ◌+◌, ◌≤◌, inl, inr, List, [], ◌∷◌, ◌++◌, length, drop, refl, sym, ap, ◌∙◌, ◌↔◌, arith}
-use Rattle.std.specs.List.{flat_map, AllByRecursion}
-use Rattle.std.proofs.lemmas.List.{drop_more, drop_all}
+use Rattle.std.proofs.Common.{◌≡◌, ℕ, Bool, true, false, ◌&&◌, nat_le, inl, inr, List, [], ◌∷◌, ◌++◌, length, take, drop, refl, sym, ap, ◌∙◌, ◌↔◌, arith, append_assoc, take-append-drop}
+use Rattle.std.specs.List.{flat_map, AllByRecursion, fold}
+use Rattle.std.proofs.lemmas.Bool.Decides.{nat_tests}
 use Rattle.je_base.specs.Text.{IsContinuation, IsUnit, IsModifiedUtf8}
-use Rattle.je_base.specs.Units.{Begins, Follows}
+use Rattle.je_base.specs.Units.{Begins, Follows, IsSingle, SkipsSingles, are_singles}
 
 -- where so many continuations are wanted, these bytes may stand to the end of a text
 abbrev pub Completes : ℕ → List ℕ → Type 0
@@ -64,16 +64,63 @@ pub completes_after : (wanted b after : ℕ) (rest : List ℕ) → Follows wante
 completes_after wanted b after rest f =
     (λ h. let e = follows_one wanted b _ _ h.1 f in rw e at h.2, λ h. (after, f, h))
 
--- a byte that may stand there leads on, at its place among all bytes
-pub completes_turn : (bytes : List ℕ) (i wanted after : ℕ) → i < length bytes → Follows wanted (get_or bytes i 0) after → Completes wanted (drop i bytes) ↔ Completes after (drop (i + 1) bytes)
-completes_turn bytes i wanted after h f =
-    rw (drop_more bytes i 0 h) (completes_after wanted (get_or bytes i 0) after (drop (i + 1) bytes) f)
+-- after bytes that are units by themselves the rest completes where all of it does
+pub completes_singles : (front left : List ℕ) → AllByRecursion IsSingle front → Completes 0 (front ++ left) ↔ Completes 0 left
+completes_singles [] left h = (λ x. x, λ x. x)
+completes_singles (b ∷ front) left h =
+    let one = completes_after 0 b 0 (front ++ left) (inl (refl, inl (refl, h.0.0, h.0.1))) in
+    let more = completes_singles front left h.1 in
+    (λ x. more.0 (one.0 x), λ x. one.1 (more.1 x))
+
+-- so what is left after them completes where the whole does
+pub completes_skipped : (bytes left : List ℕ) → SkipsSingles bytes left → Completes 0 left ↔ Completes 0 bytes
+completes_skipped bytes left (front, each, whole) =
+    let all = completes_singles front left each in rw whole (all.1, all.0)
+
+-- one byte that may stand there leads from all bytes to those after it
+pub completes_turn : (wanted b after : ℕ) (all left rest : List ℕ) → left ≡ b ∷ rest → Follows wanted b after → Completes wanted left ↔ Completes 0 all → Completes after rest ↔ Completes 0 all
+completes_turn wanted b after all left rest split f whole =
+    let turn = completes_after wanted b after rest f in
+    let whole' : Completes wanted (b ∷ rest) ↔ Completes 0 all = rw split at whole in
+    (λ h. whole'.0 (turn.1 h), λ h. turn.0 (whole'.1 h))
+
+-- and to those after further bytes that are units by themselves
+pub completes_on : (wanted b after : ℕ) (all left rest later : List ℕ) → left ≡ b ∷ rest → Follows wanted b after → after ≡ 0 → SkipsSingles rest later → Completes wanted left ↔ Completes 0 all → Completes after later ↔ Completes 0 all
+completes_on wanted b after all left rest later split f none skips whole =
+    let turn = completes_turn wanted b after all left rest split f whole in
+    let skipped = completes_skipped rest later skips in
+    let turn' : Completes 0 rest ↔ Completes 0 all = rw none at turn in
+    rw none (λ h. turn'.0 (skipped.0 h), λ h. skipped.1 (turn'.1 h))
 
 -- at a byte that may not stand there nothing completes
-pub completes_stops : (bytes : List ℕ) (i wanted : ℕ) → i < length bytes → ((after : ℕ) → Follows wanted (get_or bytes i 0) after → ⊥) → Completes wanted (drop i bytes) → ⊥
-completes_stops bytes i wanted h none complete =
-    let c = rw (drop_more bytes i 0 h) at complete in none c.0 c.1
+pub completes_stops : (wanted b : ℕ) (left rest : List ℕ) → left ≡ b ∷ rest → ((after : ℕ) → Follows wanted b after → ⊥) → Completes wanted left → ⊥
+completes_stops wanted b left rest split none complete = let c = rw split at complete in none c.0 c.1
 
 -- at the end nothing may be wanted
-pub completes_end : (bytes : List ℕ) (i wanted : ℕ) → length bytes ≤ i → Completes wanted (drop i bytes) ↔ (wanted ≡ 0)
-completes_end bytes i wanted h = rw (drop_all i bytes h) (λ x. x, λ x. x)
+pub completes_end : (wanted : ℕ) (left : List ℕ) → length left ≡ 0 → Completes wanted left ↔ (wanted ≡ 0)
+completes_end wanted [] h = (λ x. x, λ x. x)
+completes_end wanted (b ∷ rest) h = absurd (omega arith)
+
+single_after : (all : Bool) (b : ℕ) → ((all && nat_le 0x01 b) && nat_le b 0x7f) ≡ true → (all ≡ true) × IsSingle b
+single_after true b h = grind (arith, nat_tests)
+single_after false b h = absurd (cc)
+
+singles_from : (all : Bool) (bytes : List ℕ) → fold (λ all b. (all && nat_le 0x01 b) && nat_le b 0x7f) all bytes ≡ true → (all ≡ true) × AllByRecursion IsSingle bytes
+singles_from all [] h = (h, tt)
+singles_from all (b ∷ bytes) h =
+    let after = singles_from ((all && nat_le 0x01 b) && nat_le b 0x7f) bytes h in
+    let one = single_after all b after.0 in (one.0, (one.1, after.1))
+
+-- where the test holds, each of the bytes is a unit by itself
+pub singles_tested : (bytes : List ℕ) → are_singles bytes ≡ true → AllByRecursion IsSingle bytes
+singles_tested bytes h = (singles_from true bytes h).1
+
+both_singles : (front block : List ℕ) → AllByRecursion IsSingle front → AllByRecursion IsSingle block → AllByRecursion IsSingle (front ++ block)
+both_singles [] block f g = g
+both_singles (x ∷ front) block f g = (f.0, both_singles front block f.1 g)
+
+-- what is left after some such bytes and then a block of them
+pub skips_more : (n : ℕ) (bytes left block rest : List ℕ) → block ≡ take n left → rest ≡ drop n left → are_singles block ≡ true → SkipsSingles bytes left → SkipsSingles bytes rest
+skips_more n bytes left block rest b r tested (front, before, whole) =
+    let split : left ≡ block ++ rest = rw (b, r) (sym (take-append-drop n left)) in
+    (front ++ block, both_singles front block before (singles_tested block tested), whole ∙ ap (λ l. front ++ l) split ∙ sym (append_assoc front block rest))

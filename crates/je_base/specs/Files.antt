@@ -23,18 +23,19 @@ abbrev pub Tells : Option Contents → List ℕ → ℕ → Option (Vec ℕ) →
 Tells None path limit found = Unit {0}
 Tells (Some contents) path limit found = option_map (λ v. v.items) found ≡ option_map (take limit) (get contents path)
 
--- A read adds the path to the paths asked, where they are told; one that ends for want of memory may not.
-abbrev pub Asks : {T : Type 0} → List ℕ → Result T FileStop → Option (List (List ℕ)) → Option (List (List ℕ)) → Type 0
-Asks path (Err stop.Memory) old new = (new ≡ old) ⊎ (new ≡ option_map (λ asked. asked ++ path ∷ []) old)
-Asks path _ old new = new ≡ option_map (λ asked. asked ++ path ∷ []) old
+-- The path is one more of the paths asked, where they are told, and the number of reads rose.
+abbrev pub IsAsked : List ℕ → Option (List (List ℕ)) → ℕ → Option (List (List ℕ)) → ℕ → Type 0
+IsAsked path asked_old reads_old asked_new reads_new =
+    (asked_new ≡ option_map (λ asked. asked ++ path ∷ []) asked_old) × (reads_new ≡ raised reads_old)
+
+-- A read is asked. One that ends for want of memory may not be, and then paths and number are as they were.
+abbrev pub AsksAndCounts : {T : Type 0} → List ℕ → Result T FileStop → Option (List (List ℕ)) → ℕ → Option (List (List ℕ)) → ℕ → Type 0
+AsksAndCounts path (Err stop.Memory) asked_old reads_old asked_new reads_new =
+    ((asked_new ≡ asked_old) × (reads_new ≡ reads_old)) ⊎ IsAsked path asked_old reads_old asked_new reads_new
+AsksAndCounts path _ asked_old reads_old asked_new reads_new = IsAsked path asked_old reads_old asked_new reads_new
 
 -- what lies at every other path is as it was
 abbrev pub KeepsOthers : List ℕ → Option Contents → Option Contents → Type 0
 KeepsOthers path (Some old) (Some new) = (other : List ℕ) → other ≢ path → get new other ≡ get old other
 KeepsOthers path None None = Unit {0}
 KeepsOthers path _ _ = ⊥
-
--- a read raises the number of reads; one that ends for want of memory may not
-abbrev pub CountsRead : {T : Type 0} → Result T FileStop → ℕ → ℕ → Type 0
-CountsRead (Err stop.Memory) old new = (new ≡ old) ⊎ (new ≡ raised old)
-CountsRead _ old new = new ≡ raised old

@@ -2,13 +2,13 @@ ghost use Rattle.std.specs.Prelude.{◌≡◌, ℕ, ◌≤◌, List, Option, Som
 ghost use Rattle.std.specs.Option.{option_map};
 ghost use Rattle.std.specs.FinMap.{insert};
 ghost use Rattle.je_base.specs.Count.{raised, HasFault};
-ghost use Rattle.je_base.specs.Files.{Contents, Tells, Asks, CountsRead, KeepsOthers};
+ghost use Rattle.je_base.specs.Files.{Contents, Tells, AsksAndCounts, KeepsOthers};
 
 use crate::stop::{Failed, FileStop};
 
 /// Files that are read and written whole, each under a path.
 ///
-/// The counts stand still at the last value of a `u64`.
+/// The counts never fall, and stand still at the last value of a `u64`.
 pub trait Files {
     /// What lies at each path, where that is told.
     ghost contents: { Self → Option Contents };
@@ -29,8 +29,9 @@ pub trait Files {
     fn read(&mut self, path: &str, limit: usize) -> Result<Option<Vec<u8>>, FileStop>
         ensures told { IfOk result (Tells (contents self.old) path.now limit) }
         ensures within { IfOk result (λ found. IfSome found (λ bytes. vec_len bytes ≤ limit)) }
-        ensures asked { Asks path.now result (asked self.old) (asked self.new) }
-        ensures counted { CountsRead result (reads self.old) (reads self.new) }
+        ensures asked { AsksAndCounts path.now result
+            (asked self.old) (reads self.old) (asked self.new) (reads self.new) }
+        ensures reads { reads self.old ≤ reads self.new }
 
         // A read changes nothing that is written.
         ensures contents { contents self.new ≡ contents self.old }
@@ -47,6 +48,7 @@ pub trait Files {
             ≡ option_map (λ files. insert files path.now bytes.now) (contents self.old)) }
         ensures others { KeepsOthers path.now (contents self.old) (contents self.new) }
         ensures counted { writes self.new ≡ raised (writes self.old) }
+        ensures writes { writes self.old ≤ writes self.new }
 
         // A write reads nothing.
         ensures asked { asked self.new ≡ asked self.old }

@@ -3,7 +3,8 @@
 ghost use Rattle.std.specs.Prelude.{◌≡◌, ◌≢◌, ◌≤◌, None, vec_len, IfOk, IfErr, IfSome, IsErrOf, IsOkAnd, IsSomeAnd, OnOk, OnErr};
 ghost use Rattle.std.specs.IoError.{error_kind};
 ghost use Rattle.je_base.specs.Count.{raised, HasFault};
-ghost use Rattle.je_base.specs.Streams.{IsFrontOf};
+ghost use Rattle.std.specs.Io.KnownBytes.{Appends};
+ghost use Rattle.je_base.specs.Streams.{IsFrontOf, GainsAll};
 
 use crate::count::raised;
 use crate::files::Files;
@@ -89,6 +90,7 @@ impl<R: rt::Files> Files for FsFiles<R> {
         // What each read does.
         ensures within { IfOk result (λ found. IfSome found (λ bytes. vec_len bytes ≤ limit)) }
         ensures counted { self.new.reads ≡ raised self.old.reads }
+        ensures reads { self.old.reads ≤ self.new.reads }
         ensures writes { self.new.writes ≡ self.old.writes }
         ensures faults { self.old.faults ≤ self.new.faults }
         ensures failed { IsErrOf result FileStop.Failed → HasFault self.old.faults self.new.faults }
@@ -108,12 +110,13 @@ impl<R: rt::Files> Files for FsFiles<R> {
 
         // What each write does.
         ensures counted { self.new.writes ≡ raised self.old.writes }
+        ensures writes { self.old.writes ≤ self.new.writes }
         ensures reads { self.new.reads ≡ self.old.reads }
         ensures faults { self.old.faults ≤ self.new.faults }
         ensures failed { OnErr result (HasFault self.old.faults self.new.faults) }
     {
         self.writes = raised(self.writes);
-        let done = write_file(&self.system, path, bytes);
+        let done = write_file(&self.system, path, bytes).map(|_file| ());
         if done.is_err() {
             self.faults = raised(self.faults);
         }
@@ -157,8 +160,10 @@ fn read_opened<S: Read + Drop>(
     }
 }
 
-/// Makes the folders that are missing, and the file.
-fn write_file<R: rt::Files>(system: &R, path: &str, bytes: &[u8]) -> Result<(), Failed> {
+/// Makes the folders that are missing, and the file, and writes to it. Answers its stream.
+fn write_file<R: rt::Files>(system: &R, path: &str, bytes: &[u8]) -> Result<R::File, Failed>
+    ensures { IfOk result (λ file. GainsAll R.File.contents bytes.now file) }
+{
     if let Some(folder) = Path::new(path).parent() {
         if fs::create_dir_all(system, folder).is_err() {
             return Err(Failed);
@@ -167,14 +172,17 @@ fn write_file<R: rt::Files>(system: &R, path: &str, bytes: &[u8]) -> Result<(), 
     write_created(fs::create(system, path), bytes)
 }
 
-/// Writes to a file that was made.
-fn write_created<W: Write + Drop>(created: io::Result<W>, bytes: &[u8]) -> Result<(), Failed>
-    ensures { OnErr created (OnOk result ⊥) }
+/// Writes to a file that was made. Answers its stream, to which all the bytes were added.
+fn write_created<W: Write + Drop>(created: io::Result<W>, bytes: &[u8]) -> Result<W, Failed>
+    ensures gained { IfOk created (λ made. IfOk result (λ file.
+        Appends (W.contents made) (W.contents file) bytes.now)) }
+    ensures failed { OnErr created (OnOk result ⊥) }
 {
     match created {
         Ok(file) => {
             let mut file = file;
-            write_whole(&mut file, bytes)
+            write_whole(&mut file, bytes)?;
+            Ok(file)
         }
         Err(_) => Err(Failed),
     }

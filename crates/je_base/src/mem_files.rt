@@ -5,7 +5,7 @@ ghost use Rattle.std.specs.Option.{option_map};
 ghost use Rattle.std.specs.String.{string_bytes};
 ghost use Rattle.std.specs.FinMap.{get, insert};
 ghost use Rattle.je_base.specs.Count.{raised, HasFault};
-ghost use Rattle.je_base.specs.Files.{Contents, Tells, Asks, CountsRead, KeepsOthers};
+ghost use Rattle.je_base.specs.Files.{Contents, Tells, AsksAndCounts, KeepsOthers};
 ghost use Rattle.je_base.specs.MemFiles.{no_files, FailsNext, HasRoomFor, after_read, after_failed_read, after_write, after_failed_write};
 
 use crate::count::{is_among, raised};
@@ -172,8 +172,9 @@ impl Files for MemFiles {
         // What each read does.
         ensures told { IfOk result (Tells (Some self.old.contents) path.now limit) }
         ensures within { IfOk result (λ found. IfSome found (λ bytes. vec_len bytes ≤ limit)) }
-        ensures asked { Asks path.now result (Some self.old.asked) (Some self.new.asked) }
-        ensures counted { CountsRead result self.old.reads self.new.reads }
+        ensures asked { AsksAndCounts path.now result
+            (Some self.old.asked) self.old.reads (Some self.new.asked) self.new.reads }
+        ensures reads { self.old.reads ≤ self.new.reads }
         ensures contents { Some self.new.contents ≡ Some self.old.contents }
         ensures writes { self.new.writes ≡ self.old.writes }
         ensures faults { self.old.faults ≤ self.new.faults }
@@ -208,6 +209,7 @@ impl Files for MemFiles {
             ≡ option_map (λ files. insert files path.now bytes.now) (Some self.old.contents)) }
         ensures others { KeepsOthers path.now (Some self.old.contents) (Some self.new.contents) }
         ensures counted { self.new.writes ≡ raised self.old.writes }
+        ensures writes { self.old.writes ≤ self.new.writes }
         ensures asked { Some self.new.asked ≡ Some self.old.asked }
         ensures reads { self.new.reads ≡ self.old.reads }
         ensures faults { self.old.faults ≤ self.new.faults }

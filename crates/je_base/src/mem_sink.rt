@@ -121,6 +121,7 @@ impl Sink for MemSink {
             ≡ option_map (λ taken. taken ++ piece.now) (Some self.old.bytes)) }
         ensures front { GainsFront piece.now (Some self.old.bytes) (Some self.new.bytes) }
         ensures counted { self.new.puts ≡ raised self.old.puts }
+        ensures puts { self.old.puts ≤ self.new.puts }
         ensures faults { self.old.faults ≤ self.new.faults }
         ensures failed { OnErr result (HasFault self.old.faults self.new.faults) }
     {

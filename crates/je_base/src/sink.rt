@@ -7,7 +7,7 @@ use crate::stop::Failed;
 
 /// What takes bytes in pieces, as a standard stream does.
 ///
-/// The counts stand still at the last value of a `u64`.
+/// The counts never fall, and stand still at the last value of a `u64`.
 pub trait Sink {
     /// The bytes put so far, where they are told.
     ghost bytes: { Self → Option (List ℕ) };
@@ -24,6 +24,7 @@ pub trait Sink {
             ≡ option_map (λ taken. taken ++ piece.now) (bytes self.old)) }
         ensures front { GainsFront piece.now (bytes self.old) (bytes self.new) }
         ensures counted { puts self.new ≡ raised (puts self.old) }
+        ensures puts { puts self.old ≤ puts self.new }
 
         // It fails only with a fault on record.
         ensures faults { faults self.old ≤ faults self.new }

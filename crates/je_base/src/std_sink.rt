@@ -88,6 +88,7 @@ impl<W: Write> Sink for StdSink<W> {
 
         // What each put does.
         ensures counted { self.new.puts ≡ raised self.old.puts }
+        ensures puts { self.old.puts ≤ self.new.puts }
         ensures faults { self.old.faults ≤ self.new.faults }
         ensures failed { OnErr result (HasFault self.old.faults self.new.faults) }
     {

@@ -1,7 +1,7 @@
 //! Reading from streams and writing to them, to the end.
 
-ghost use Rattle.std.specs.Prelude.{◌≤◌, vec_len, IfOk, OnOk};
-ghost use Rattle.std.specs.Io.KnownBytes.{Appends};
+ghost use Rattle.std.specs.Prelude.{◌≡◌, ℕ, ◌+◌, ◌<◌, ◌≤◌, ◌^◌, take, drop, length, vec_len, IfOk, OnOk, OnErr};
+ghost use Rattle.std.specs.Io.KnownBytes.{Appends, Consumes, IsAtEnd};
 ghost use Rattle.je_base.specs.Streams.{IsFrontOf};
 
 use crate::stop::{Failed, FileStop, Memory};
@@ -9,7 +9,7 @@ use std::alloc::Global;
 use std::io::{ErrorKind, Read, Write};
 
 /// How many bytes are read at once.
-const PIECE: usize = 4096;
+const PIECE: usize = 65_536;
 
 /// Reads the first `limit` bytes, or all where there are fewer. A source that gives nothing is at its end.
 pub fn read_front<S: Read>(alloc: Global, from: &mut S, limit: usize) -> Result<Vec<u8>, FileStop>
@@ -17,20 +17,66 @@ pub fn read_front<S: Read>(alloc: Global, from: &mut S, limit: usize) -> Result<
     ensures front { IfOk result (λ bytes. IsFrontOf (S.remaining from.old) limit bytes.items) }
 {
     let mut bytes = Vec::new(alloc);
-    let mut piece = [0u8; PIECE];
+    let mut filled = 0;
     for _ in 0..u64::MAX {
-        let wanted = PIECE.min(limit - bytes.len());
+        let wanted = PIECE.min(limit - filled);
         if wanted == 0 {
+            bytes.truncate(filled);
             return Ok(bytes);
         }
-        match from.read(&mut piece[..wanted]) {
-            Ok(0) => return Ok(bytes),
-            Ok(n) => bytes.extend_from_slice(&piece[..n]).map_err(Memory::from)?,
-            Err(e) if e.kind() == ErrorKind::Interrupted => {}
-            Err(_) => return Err(FileStop::Failed),
+        make_room(&mut bytes, filled, wanted)?;
+        match read_behind(from, &mut bytes, filled) {
+            Ok(0) => {
+                bytes.truncate(filled);
+                return Ok(bytes);
+            }
+            Ok(n) => filled += n,
+            Err(Failed) => return Err(FileStop::Failed),
         }
     }
     Err(FileStop::Failed)
+}
+
+/// Makes room for so many bytes behind the first `filled` ones.
+fn make_room(bytes: &mut Vec<u8>, filled: usize, wanted: usize) -> Result<(), Memory>
+    requires within { filled ≤ vec_len bytes.old }
+    requires fits { filled + wanted < 2 ^ 64 }
+    ensures len { OnOk result (vec_len bytes.new ≡ filled + wanted) }
+    ensures front { OnOk result (take filled bytes.new.items ≡ take filled bytes.old.items) }
+{
+    bytes.resize(filled + wanted, 0)?;
+    Ok(())
+}
+
+/// One read into what stands behind the first `filled` bytes, of which there are some. Answers how many
+/// bytes it gave: none at the end of the source.
+fn read_behind<S: Read>(from: &mut S, bytes: &mut [u8], filled: usize) -> Result<usize, Failed>
+    requires { filled < length bytes.old }
+    ensures front { take filled bytes.new ≡ take filled bytes.old }
+    ensures fits { IfOk result (λ n. filled + n ≤ length bytes.new) }
+    ensures given { IfOk result (λ n. Consumes (S.remaining from.old) (S.remaining from.new)
+        (take n (drop filled bytes.new))) }
+    ensures end { IfOk result (λ n. n ≡ 0 → IsAtEnd (S.remaining from.new)) }
+{
+    read_once(from, &mut bytes[filled..])
+}
+
+/// One read, which is made again where it was interrupted.
+fn read_once<S: Read>(from: &mut S, piece: &mut [u8]) -> Result<usize, Failed>
+    requires { 0 < length piece.old }
+    ensures fits { IfOk result (λ n. n ≤ length piece.new) }
+    ensures given { IfOk result (λ n. Consumes (S.remaining from.old) (S.remaining from.new)
+        (take n piece.new)) }
+    ensures end { IfOk result (λ n. n ≡ 0 → IsAtEnd (S.remaining from.new)) }
+{
+    for _ in 0..u64::MAX {
+        match from.read(piece) {
+            Ok(n) => return Ok(n),
+            Err(e) if e.kind() == ErrorKind::Interrupted => {}
+            Err(_) => return Err(Failed),
+        }
+    }
+    Err(Failed)
 }
 
 /// Writes the whole piece. A sink that takes nothing of what is left has failed.

@@ -9,6 +9,7 @@ use crate::std_sink::StdSink;
 use crate::stop::{Failed, FileStop};
 use crate::text::Text;
 use std::fs;
+use std::hash::{DefaultHasher, Hash, Hasher};
 use std::test::Fail;
 
 #[test]
@@ -76,6 +77,27 @@ fn strings_are_encoded(rt: HostRuntime) -> Result<(), Fail> {
         );
     }
     Ok(())
+}
+
+#[test]
+fn texts_are_in_the_order_of_their_bytes(rt: HostRuntime) -> Result<(), Fail> {
+    let strings = ["", "A", "AB", "B", "\0", "\u{e9}", "\u{20ac}"];
+    for (i, string) in strings.iter().enumerate() {
+        let text = Text::of(rt.alloc(), string)?;
+        for (j, other) in strings.iter().enumerate() {
+            let other = Text::of(rt.alloc(), other)?;
+            assert_eq!(rt; text == other, i == j);
+            assert!(rt; text.cmp(&other) == i.cmp(&j));
+            assert_eq!(rt; hash_of(&text) == hash_of(&other), i == j);
+        }
+    }
+    Ok(())
+}
+
+fn hash_of(text: &Text) -> u64 {
+    let mut state = DefaultHasher::new();
+    text.hash(&mut state);
+    state.finish()
 }
 
 #[test]
@@ -178,6 +200,26 @@ fn a_written_file_is_read(rt: HostRuntime) -> Result<(), Fail> {
     assert!(rt; matches!(&folder, Err(FileStop::Failed)));
     assert_eq!(rt; (files.reads(), files.writes(), files.faults()), (4, 2, 2));
     fs::remove_dir_all(&rt, "je_base_tests")?;
+    Ok(())
+}
+
+#[test]
+fn a_long_file_is_written_and_read_whole(rt: HostRuntime) -> Result<(), Fail> {
+    let mut bytes = Vec::new(rt.alloc());
+    for i in 0..0x10_0000u32 {
+        bytes.push((i % 251) as u8)?;
+    }
+    let mut files = FsFiles::new(rt.alloc(), rt.clone()?);
+    assert!(rt; files.write("je_base_long/a", &bytes) == Ok(()));
+    for limit in [0, 0x1_0000, 0x1_0001, 0x10_0000, usize::MAX] {
+        let front = &bytes[..limit.min(bytes.len())];
+        let read = files.read("je_base_long/a", limit);
+        assert!(rt;
+            matches!(&read, Ok(Some(found)) if found.as_slice() == front),
+            "at {limit}"
+        );
+    }
+    fs::remove_dir_all(&rt, "je_base_long")?;
     Ok(())
 }
 

@@ -1,17 +1,25 @@
 //! Class file texts.
 
-ghost use Rattle.std.specs.Prelude.{◌≡◌, ℕ, ◌↔◌, IsTrue, IfOk, IfSome, IfNone};
+ghost use Rattle.std.specs.Prelude.{◌≡◌, ℕ, ◌↔◌, Some, IsTrue, IfOk, IfSome, IfNone, refl};
+ghost use Rattle.std.proofs.Common.{rules};
+ghost use Rattle.std.specs.Cmp.{partial_equiv_from_equiv};
+ghost use Rattle.std.specs.Cmp.Lexicographic.{nat_list_cmp_total, nat_list_eq_equiv, slice_cmp, texts_po, texts_ties};
+ghost use Rattle.std.specs.Cmp.Rules.{hashing};
+ghost use Rattle.std.specs.Hash as fed;
+ghost use Rattle.std.specs.Ordering.{nat_cmp};
 ghost use Rattle.std.specs.Str.{chars};
 ghost use Rattle.std.specs.String.{string_bytes};
 ghost use Rattle.je_base.specs.Encoding.{encoding};
-ghost use Rattle.je_base.specs.Text.{IsModifiedUtf8};
+ghost use Rattle.je_base.specs.Text.{IsModifiedUtf8, is_same_text};
 ghost use Rattle.je_base.specs.Shown.{shown};
-ghost use Rattle.je_base.specs.Units.{Follows};
+ghost use Rattle.je_base.specs.Units.{Follows, SkipsSingles, are_singles};
 
 use crate::encoding::encode_text;
 use crate::shown::show;
 use crate::stop::Memory;
 use std::alloc::Global;
+use std::cmp::Ordering;
+use std::hash::{Hash, Hasher};
 use std::marker::Model;
 
 /// A text as class files have it: bytes in modified UTF-8 (JVMS 4.4.7).
@@ -80,18 +88,100 @@ impl Text {
     }
 }
 
+/// Texts are equal where their bytes are.
+impl PartialEq for Text {
+    ghost eq = { is_same_text };
+
+    ghost laws = { partial_equiv_from_equiv nat_list_eq_equiv };
+
+    fn eq(&self, other: &Text) -> bool
+        ensures value { result ≡ is_same_text self.now other.now }
+        ensures same { IsTrue result ↔ self.now ≡ other.now }
+    {
+        self.bytes.as_slice() == other.bytes.as_slice()
+    }
+}
+
+impl Eq for Text {
+    ghost laws = { nat_list_eq_equiv };
+}
+
+/// Texts are in the order of their bytes, and a text that begins another comes before it.
+impl Ord for Text {
+    ghost cmp = { slice_cmp nat_cmp };
+
+    ghost total = { nat_list_cmp_total };
+
+    ghost matches_partial_cmp = { λ a b. refl };
+
+    ghost matches_eq = { texts_ties };
+
+    fn cmp(&self, other: &Text) -> Ordering {
+        self.bytes.as_slice().cmp(other.bytes.as_slice())
+    }
+}
+
+impl PartialOrd for Text {
+    ghost partial_cmp = { λ a b. Some (slice_cmp nat_cmp a b) };
+
+    ghost laws = { texts_po };
+
+    fn partial_cmp(&self, other: &Text) -> Option<Ordering> {
+        Some(self.cmp(other))
+    }
+}
+
+impl Hash for Text {
+    ghost hash_input = { fed.slice fed.u8 };
+
+    ghost respects_eq = { Prim.search (hashing, rules) };
+
+    fn hash<H: Hasher>(&self, state: &mut H) {
+        self.bytes.as_slice().hash(state);
+    }
+}
+
 /// Whether the bytes are modified UTF-8.
 fn is_modified_utf8(bytes: &[u8]) -> bool
     ensures { IsTrue result ↔ IsModifiedUtf8 bytes.now }
 {
     let mut wanted = 0;
-    for byte in bytes {
+    let mut left = past_singles(bytes);
+    while let Some((byte, rest)) = left.split_first() {
         match wanted_after(wanted, *byte) {
             Some(after) => wanted = after,
             None => return false,
         }
+        left = if wanted == 0 {
+            past_singles(rest)
+        } else {
+            rest
+        };
     }
     wanted == 0
+}
+
+/// What is left after bytes that are units by themselves, which are taken eight at a time.
+fn past_singles(bytes: &[u8]) -> &[u8]
+    ensures { SkipsSingles bytes.now result.now }
+{
+    let mut left = bytes;
+    while let Some((block, rest)) = left.split_first_chunk::<8>() {
+        if !are_singles(block) {
+            break;
+        }
+        left = rest;
+    }
+    left
+}
+
+/// Whether each of eight bytes is a unit by itself. All of them are looked at, which is faster.
+fn are_singles(block: &[u8; 8]) -> bool
+    ensures { result ≡ are_singles block.now }
+{
+    block
+        .iter()
+        .fold(true, |all, byte| all & (*byte >= 0x01) & (*byte <= 0x7f))
 }
 
 /// How many continuations are wanted after a byte, where so many were wanted before it, or `None` where
