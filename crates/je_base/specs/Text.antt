@@ -1,6 +1,7 @@
 -- Modified UTF-8, as the bytes of a CONSTANT_Utf8_info have it (JVMS 4.4.7).
-use Rattle.std.specs.Prelude.{◌≡◌, ℕ, ◌≤◌, List, [], ◌∷◌}
+use Rattle.std.specs.Prelude.{◌≡◌, ℕ, ◌≤◌, Bool, nat_eq, List, [], ◌∷◌}
 use Rattle.std.specs.List.{flat_map, AllByRecursion}
+use Rattle.std.specs.Cmp.Lexicographic.{pointwise}
 
 -- a second or third byte of a unit, whose two high bits are 10
 abbrev pub IsContinuation : ℕ → Type 0
@@ -17,3 +18,7 @@ IsUnit _ = ⊥
 -- the bytes are units, one after the other
 abbrev pub IsModifiedUtf8 : List ℕ → Type 0
 IsModifiedUtf8 bytes = (units : List (List ℕ)) × AllByRecursion IsUnit units × (bytes ≡ flat_map (λ unit. unit) units)
+
+-- texts are equal where their bytes are
+abbrev pub is_same_text : List ℕ → List ℕ → Bool
+is_same_text a b = pointwise nat_eq a b

@@ -8,6 +8,7 @@ use crate::std_sink::StdSink;
 use crate::stop::{Failed, FileStop};
 use crate::text::Text;
 use std::fs;
+use std::hash::{DefaultHasher, Hash, Hasher};
 use std::test::Fail;
 
 #[test]
@@ -53,6 +54,27 @@ fn strings_are_encoded(rt: HostRuntime) -> Result<(), Fail> {
         );
     }
     Ok(())
+}
+
+#[test]
+fn texts_are_in_the_order_of_their_bytes(rt: HostRuntime) -> Result<(), Fail> {
+    let strings = ["", "A", "AB", "B", "\0", "\u{e9}", "\u{20ac}"];
+    for (i, string) in strings.iter().enumerate() {
+        let text = Text::of(rt.alloc(), string)?;
+        for (j, other) in strings.iter().enumerate() {
+            let other = Text::of(rt.alloc(), other)?;
+            assert_eq!(rt; text == other, i == j);
+            assert!(rt; text.cmp(&other) == i.cmp(&j));
+            assert_eq!(rt; hash_of(&text) == hash_of(&other), i == j);
+        }
+    }
+    Ok(())
+}
+
+fn hash_of(text: &Text) -> u64 {
+    let mut state = DefaultHasher::new();
+    text.hash(&mut state);
+    state.finish()
 }
 
 #[test]

@@ -1,10 +1,16 @@
 //! Class file texts.
 
-ghost use Rattle.std.specs.Prelude.{◌≡◌, ℕ, ◌↔◌, IsTrue, IfOk, IfSome, IfNone};
+ghost use Rattle.std.specs.Prelude.{◌≡◌, ℕ, ◌↔◌, Some, IsTrue, IfOk, IfSome, IfNone, refl};
+ghost use Rattle.std.proofs.Common.{rules};
+ghost use Rattle.std.specs.Cmp.{partial_equiv_from_equiv};
+ghost use Rattle.std.specs.Cmp.Lexicographic.{nat_list_cmp_total, nat_list_eq_equiv, slice_cmp, texts_po, texts_ties};
+ghost use Rattle.std.specs.Cmp.Rules.{hashing};
+ghost use Rattle.std.specs.Hash as fed;
+ghost use Rattle.std.specs.Ordering.{nat_cmp};
 ghost use Rattle.std.specs.Str.{chars};
 ghost use Rattle.std.specs.String.{string_bytes};
 ghost use Rattle.je_base.specs.Encoding.{encoding};
-ghost use Rattle.je_base.specs.Text.{IsModifiedUtf8};
+ghost use Rattle.je_base.specs.Text.{IsModifiedUtf8, is_same_text};
 ghost use Rattle.je_base.specs.Shown.{shown};
 ghost use Rattle.je_base.specs.Units.{Follows};
 
@@ -12,6 +18,8 @@ use crate::encoding::encode_text;
 use crate::shown::show;
 use crate::stop::Memory;
 use std::alloc::Global;
+use std::cmp::Ordering;
+use std::hash::{Hash, Hasher};
 use std::marker::Model;
 
 /// A text as class files have it: bytes in modified UTF-8 (JVMS 4.4.7).
@@ -77,6 +85,59 @@ impl Text {
         ensures { IfOk result (λ s. string_bytes s ≡ shown self.now) }
     {
         show(*self.bytes.allocator(), &self.bytes)
+    }
+}
+
+/// Texts are equal where their bytes are.
+impl PartialEq for Text {
+    ghost eq = { is_same_text };
+
+    ghost laws = { partial_equiv_from_equiv nat_list_eq_equiv };
+
+    fn eq(&self, other: &Text) -> bool
+        ensures value { result ≡ is_same_text self.now other.now }
+        ensures same { IsTrue result ↔ self.now ≡ other.now }
+    {
+        self.bytes.as_slice() == other.bytes.as_slice()
+    }
+}
+
+impl Eq for Text {
+    ghost laws = { nat_list_eq_equiv };
+}
+
+/// Texts are in the order of their bytes, and a text that begins another comes before it.
+impl Ord for Text {
+    ghost cmp = { slice_cmp nat_cmp };
+
+    ghost total = { nat_list_cmp_total };
+
+    ghost matches_partial_cmp = { λ a b. refl };
+
+    ghost matches_eq = { texts_ties };
+
+    fn cmp(&self, other: &Text) -> Ordering {
+        self.bytes.as_slice().cmp(other.bytes.as_slice())
+    }
+}
+
+impl PartialOrd for Text {
+    ghost partial_cmp = { λ a b. Some (slice_cmp nat_cmp a b) };
+
+    ghost laws = { texts_po };
+
+    fn partial_cmp(&self, other: &Text) -> Option<Ordering> {
+        Some(self.cmp(other))
+    }
+}
+
+impl Hash for Text {
+    ghost hash_input = { fed.slice fed.u8 };
+
+    ghost respects_eq = { Prim.search (hashing, rules) };
+
+    fn hash<H: Hasher>(&self, state: &mut H) {
+        self.bytes.as_slice().hash(state);
     }
 }
 
