@@ -10,3 +10,4 @@ pub mod ReadLemmas
 pub mod AddLemmas
 pub mod ExactLemmas
 pub mod OneAnswer
+pub mod OneAdd

@@ -24,9 +24,14 @@ pub record IsLeastIndex (places : List Place) (c : Const) (index : ℕ) : Type 0
   pub here : const_at places index ≡ Some c
   pub least : (i : ℕ) → const_at places i ≡ Some c → index ≤ i
 
--- the entry stands at the end, where none held it before
+-- the entry is not there, and with it the pool has a count of at most 65,535
+pub record HasRoom (places : List Place) (c : Const) : Type 0 where
+  pub missing : IsMissing places c
+  pub within : length places + length (places_of c) + 1 ≤ 65535
+
+-- the entry stands at the end, where none held it before and there was room
 pub record IsAppended (old : List Place) (c : Const) (new : List Place) (index : ℕ) : Type 0 where
-  pub missing : IsMissing old c
+  pub room : HasRoom old c
   pub index_is : index ≡ length old + 1
   pub places_are : new ≡ old ++ places_of c
 
@@ -41,9 +46,10 @@ pub record IsFull (places : List Place) (c : Const) (count : ℕ) : Type 0 where
   pub count_is : count ≡ length places + length (places_of c) + 1
   pub past : 65535 < count
 
+-- A full pool says so, also where memory is short. Only an entry that is not there and has room wants memory.
 abbrev pub Refuses : List Place → Const → PoolStop → Type 0
 Refuses places c (stops.Full count) = IsFull places c count
-Refuses places c stops.Memory = Unit {0}
+Refuses places c stops.Memory = HasRoom places c
 
 -- What adding this entry may answer, and what it leaves. A refusal changes nothing.
 abbrev pub Adds : Const → List Place → Result ℕ PoolStop → List Place → Type 0
@@ -56,7 +62,8 @@ pub record Keeps (old new : List Place) : Type 0 where
   pub content : (i : ℕ) (c : Const) → const_at old i ≡ Some c → const_at new i ≡ Some c
 
 -- One add, and then, unless it was refused, the next, which is told the index. After a refusal what was added before
--- stands.
+-- stands. So the answer is that the pool is full exactly where an add in the row is so refused, and want of memory is
+-- answered only by an add that has room.
 abbrev pub Then : (List Place → Result ℕ PoolStop → List Place → Type 0) → (ℕ → List Place → Result ℕ PoolStop → List Place → Type 0) → List Place → Result ℕ PoolStop → List Place → Type 0
 Then first next old result new =
     ((e : PoolStop) × (result ≡ Err e) × first old (Err e) new) ⊎ ((index : ℕ) × (mid : List Place) × first old (Ok index) mid × next index mid result new)

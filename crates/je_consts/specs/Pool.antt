@@ -8,6 +8,8 @@ use Rattle.std.specs.Int.{w32, w64}
 use Rattle.je_base.specs.Text.{IsModifiedUtf8}
 use Rattle.je_consts.specs.declared.constant.Const.{Const}
 use Rattle.je_consts.specs.declared.constant.Const.TheVariants.{Utf8, Integer, Float, Long, Double, Class, Str, Field, Method, InterfaceMethod, NameAndType, MethodHandle, MethodType, InvokeDynamic}
+use Rattle.je_consts.specs.declared.constant.MemberTag.{MemberTag}
+use Rattle.je_consts.specs.declared.constant.MemberTag.TheVariants as tags
 use Rattle.je_consts.specs.declared.place.Place.{Place}
 use Rattle.je_consts.specs.declared.place.Place.TheVariants.{Entry, Second}
 
@@ -75,6 +77,31 @@ class_at places i = option_and_then (class_of places) (const_at places i)
 abbrev pub NamesAndTypes : List Place → ℕ → List ℕ → List ℕ → Type 0
 NamesAndTypes places i name descriptor =
     (n : ℕ) × (d : ℕ) × (const_at places i ≡ Some (NameAndType n d)) × (text_at places n ≡ Some name) × (text_at places d ≡ Some descriptor)
+
+-- the name and the descriptor of the CONSTANT_NameAndType at an index (JVMS 4.4.6)
+abbrev pub name_and_type_of : List Place → Const → Option (List ℕ × List ℕ)
+name_and_type_of places (NameAndType name descriptor) =
+    option_and_then (λ n. option_and_then (λ d. Some (n, d)) (text_at places descriptor)) (text_at places name)
+name_and_type_of places _ = None
+
+abbrev pub name_and_type_at : List Place → ℕ → Option (List ℕ × List ℕ)
+name_and_type_at places i = option_and_then (name_and_type_of places) (const_at places i)
+
+-- the class's name, and the name and the descriptor of the CONSTANT_NameAndType, at these indexes
+abbrev pub named_member : MemberTag → List Place → ℕ → ℕ → Option (MemberTag × List ℕ × List ℕ × List ℕ)
+named_member kind places class member =
+    option_and_then (λ o. option_and_then (λ m. Some (kind, o, m.0, m.1)) (name_and_type_at places member)) (class_at places class)
+
+abbrev pub member_of_entry : List Place → Const → Option (MemberTag × List ℕ × List ℕ × List ℕ)
+member_of_entry places (Field class member) = named_member tags.Field places class member
+member_of_entry places (Method class member) = named_member tags.Method places class member
+member_of_entry places (InterfaceMethod class member) = named_member tags.InterfaceMethod places class member
+member_of_entry places _ = None
+
+-- the field or method at an index: which of the three structures, the name of its class, its name and its descriptor
+-- (JVMS 4.4.2)
+abbrev pub member_at : List Place → ℕ → Option (MemberTag × List ℕ × List ℕ × List ℕ)
+member_at places i = option_and_then (member_of_entry places) (const_at places i)
 
 -- a field, a method or an interface's method
 abbrev pub IsMemberTag : ℕ → Type 0

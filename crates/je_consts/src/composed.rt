@@ -1,7 +1,8 @@
 //! Texts, classes and members, added with all that they name.
 
-ghost use Rattle.std.specs.Prelude.{◌≡◌, ◌≤◌, Some, length, IfOk};
-ghost use Rattle.je_consts.specs.Adding.{Adds, AddsClass, AddsNameAndType, AddsMember, NamesMember, Keeps, member_of};
+ghost use Rattle.std.specs.Prelude.{◌≡◌, ℕ, ◌≤◌, ◌⊎◌, List, Some, Err, length, IfOk};
+ghost use Rattle.je_consts.specs.declared.place.Place.{Place};
+ghost use Rattle.je_consts.specs.Adding.{IsFull, Adds, AddsClass, AddsNameAndType, AddsMember, NamesMember, Keeps, member_of};
 ghost use Rattle.je_consts.specs.Pool.{const_at, class_at, NamesAndTypes};
 
 use crate::constant::{Const, MemberTag};
@@ -22,14 +23,19 @@ fn member_of(kind: MemberTag, class: u16, member: u16) -> Const
 
 impl Consts {
     /// Adds a text of at most 65,535 bytes. Errors are those of `add`.
+    ///
+    /// A full pool says so even where memory is short, and a text that is there wants no memory.
     pub fn add_text(&mut self, t: &Text) -> Result<u16, PoolStop>
         requires { length t.now ≤ 65535 }
         ensures adds { Adds (Const.Utf8 t.now) self.old result self.new }
+        ensures full { (n : ℕ) → IsFull self.old (Const.Utf8 t.now) n → result ≡ Err (PoolStop.Full n) }
         ensures there { IfOk result (λ index. const_at self.new index ≡ Some (Const.Utf8 t.now)) }
         ensures keeps { Keeps self.old self.new }
     {
-        let text = t.copy()?;
-        self.add(Const::Utf8(text))
+        match t.copy() {
+            Ok(text) => self.add(Const::Utf8(text)),
+            Err(_) => self.text_without_copy(t),
+        }
     }
 
     /// Adds a name of at most 65,535 bytes, and then the class of this name.
@@ -38,6 +44,9 @@ impl Consts {
     pub fn add_class(&mut self, name: &Text) -> Result<u16, PoolStop>
         requires { length name.now ≤ 65535 }
         ensures adds { AddsClass name.now self.old result self.new }
+        // Where an add of the row is refused by a full pool, so is this, unless memory ran out before.
+        ensures full { (n : ℕ) (places : List Place) → AddsClass name.now self.old (Err (PoolStop.Full n)) places →
+            (result ≡ Err (PoolStop.Full n)) ⊎ (result ≡ Err PoolStop.Memory) }
         ensures there { IfOk result (λ index. class_at self.new index ≡ Some name.now) }
         ensures keeps { Keeps self.old self.new }
     {
@@ -50,6 +59,9 @@ impl Consts {
         requires name { length name.now ≤ 65535 }
         requires descriptor { length descriptor.now ≤ 65535 }
         ensures adds { AddsNameAndType name.now descriptor.now self.old result self.new }
+        // Where an add of the row is refused by a full pool, so is this, unless memory ran out before.
+        ensures full { (n : ℕ) (places : List Place) → AddsNameAndType name.now descriptor.now self.old (Err (PoolStop.Full n)) places →
+            (result ≡ Err (PoolStop.Full n)) ⊎ (result ≡ Err PoolStop.Memory) }
         ensures there { IfOk result (λ index.
             NamesAndTypes self.new index name.now descriptor.now) }
         ensures keeps { Keeps self.old self.new }
@@ -73,6 +85,9 @@ impl Consts {
         requires name { length name.now ≤ 65535 }
         requires descriptor { length descriptor.now ≤ 65535 }
         ensures adds { AddsMember kind owner.now name.now descriptor.now self.old result self.new }
+        // Where an add of the row is refused by a full pool, so is this, unless memory ran out before.
+        ensures full { (n : ℕ) (places : List Place) → AddsMember kind owner.now name.now descriptor.now self.old (Err (PoolStop.Full n)) places →
+            (result ≡ Err (PoolStop.Full n)) ⊎ (result ≡ Err PoolStop.Memory) }
         ensures there { IfOk result (λ index.
             NamesMember kind self.new index owner.now name.now descriptor.now) }
         ensures keeps { Keeps self.old self.new }

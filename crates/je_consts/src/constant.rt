@@ -50,3 +50,16 @@ pub enum MemberTag {
     /// CONSTANT_InterfaceMethodref.
     InterfaceMethod,
 }
+
+/// A field or method as a constant pool names it (JVMS 4.4.2).
+#[derive(Clone, Copy, Debug)]
+pub struct Member<'a> {
+    /// Which of the three structures it is.
+    pub kind: MemberTag,
+    /// The name of its class or interface.
+    pub owner: &'a Text,
+    /// Its name.
+    pub name: &'a Text,
+    /// Its descriptor (JVMS 4.3).
+    pub descriptor: &'a Text,
+}

@@ -1,19 +1,19 @@
 //! A constant pool in memory.
 
 ghost use Rattle.std.specs.Prelude.{◌≡◌, ℕ, ◌+◌, ◌≤◌, ◌⊎◌, List, Some, Err, length, vec_len, slice_range, IfOk, IfErr, MatchResult};
-ghost use Rattle.std.specs.Option.{option_copied};
+ghost use Rattle.std.specs.Option.{option_copied, option_map};
 ghost use Rattle.je_consts.specs.declared.fault.ConstFault.{ConstFault};
 ghost use Rattle.je_consts.specs.declared.place.Place.{Place};
 ghost use Rattle.je_consts.specs.Adding.{IsLawful, IsFull, Adds, Keeps};
 ghost use Rattle.je_consts.specs.Faults.{FirstFault};
 ghost use Rattle.je_consts.specs.Layout.{pool_layout, IsPoolAt};
-ghost use Rattle.je_consts.specs.Pool.{const_at, text_at, class_at, Names, IsPool};
+ghost use Rattle.je_consts.specs.Pool.{const_at, text_at, class_at, name_and_type_at, member_at, Names, IsPool};
 
-use crate::adding::add_to;
-use crate::constant::Const;
+use crate::adding::{add_to, without_copy};
+use crate::constant::{Const, Member};
 use crate::copying::copy_places;
 use crate::fault::{ConstFault, PoolStop};
-use crate::lookup::{class_at, const_at, text_at};
+use crate::lookup::{class_at, const_at, member_at, name_and_type_at, text_at};
 use crate::place::Place;
 use crate::reading::pool_of;
 use crate::writing::bytes_of;
@@ -96,6 +96,23 @@ impl Consts {
         class_at(&self.places, index)
     }
 
+    /// The name and the descriptor of the CONSTANT_NameAndType at an index (JVMS 4.4.6); `None` where no NameAndType
+    /// stands there.
+    pub fn name_and_type(&self, index: u16) -> Option<(&Text, &Text)>
+        ensures { option_map (λ m. (m.0.now, m.1.now)) result ≡ name_and_type_at self.now index }
+    {
+        name_and_type_at(&self.places, index)
+    }
+
+    /// The field or method at an index: which of the three structures it is, the name of its class, its name and its
+    /// descriptor (JVMS 4.4.2); `None` where none of them stands there.
+    pub fn member(&self, index: u16) -> Option<Member<'_>>
+        ensures { option_map (λ m. (m.kind, m.owner.now, m.name.now, m.descriptor.now)) result
+            ≡ member_at self.now index }
+    {
+        member_at(&self.places, index)
+    }
+
     /// The count as the file has it: one more than the number of indexes, and at most 65,535.
     pub fn count(&self) -> u32
         ensures count { result ≡ length self.now + 1 }
@@ -122,6 +139,15 @@ impl Consts {
         ensures keeps { Keeps self.old self.new }
     {
         add_to(&mut self.places, c)
+    }
+
+    /// The index of a text that is there, or why it is not added where there is no memory for a copy of it.
+    pub(crate) fn text_without_copy(&self, text: &Text) -> Result<u16, PoolStop>
+        ensures adds { Adds (Const.Utf8 text.now) self.now result self.now }
+        ensures full { (n : ℕ) → IsFull self.now (Const.Utf8 text.now) n → result ≡ Err (PoolStop.Full n) }
+        ensures there { IfOk result (λ index. const_at self.now index ≡ Some (Const.Utf8 text.now)) }
+    {
+        without_copy(&self.places, text)
     }
 
     /// The bytes of the pool: the count and the entries.

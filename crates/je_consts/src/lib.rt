@@ -19,7 +19,7 @@ mod reading;
 mod same;
 mod writing;
 
-pub use constant::{Const, MemberTag};
+pub use constant::{Const, Member, MemberTag};
 pub use consts::Consts;
 pub use fault::{ConstFault, PoolStop};
 pub use laws::one_pool;

@@ -1,10 +1,10 @@
 //! What the indexes of a constant pool name (JVMS 4.4).
 
 ghost use Rattle.std.specs.Prelude.{◌≡◌, ◌↔◌, IsTrue, Some};
-ghost use Rattle.std.specs.Option.{option_copied};
-ghost use Rattle.je_consts.specs.Pool.{tag, const_at, text_at, class_at, tag_at};
+ghost use Rattle.std.specs.Option.{option_copied, option_map};
+ghost use Rattle.je_consts.specs.Pool.{tag, const_at, text_at, class_at, tag_at, name_and_type_at, named_member, member_at};
 
-use crate::constant::Const;
+use crate::constant::{Const, Member, MemberTag};
 use crate::place::Place;
 use je_base::Text;
 
@@ -79,6 +79,52 @@ pub(crate) fn class_at(places: &[Place], index: u16) -> Option<&Text>
 {
     match const_at(places, index) {
         Some(Const::Class(name)) => text_at(places, *name),
+        _ => None,
+    }
+}
+
+/// The name and the descriptor of the NameAndType at an index.
+pub(crate) fn name_and_type_at(places: &[Place], index: u16) -> Option<(&Text, &Text)>
+    ensures { option_map (λ m. (m.0.now, m.1.now)) result ≡ name_and_type_at places.now index }
+{
+    let Some(Const::NameAndType(name, descriptor)) = const_at(places, index) else {
+        return None;
+    };
+    let name = text_at(places, *name)?;
+    let descriptor = text_at(places, *descriptor)?;
+    Some((name, descriptor))
+}
+
+/// The member of this class, with this name and type.
+fn named_member(kind: MemberTag, places: &[Place], class: u16, member: u16) -> Option<Member<'_>>
+    ensures { option_map (λ m. (m.kind, m.owner.now, m.name.now, m.descriptor.now)) result
+        ≡ named_member kind places.now class member }
+{
+    let owner = class_at(places, class)?;
+    let (name, descriptor) = name_and_type_at(places, member)?;
+    Some(Member {
+        kind,
+        owner,
+        name,
+        descriptor,
+    })
+}
+
+/// The field or method at an index.
+pub(crate) fn member_at(places: &[Place], index: u16) -> Option<Member<'_>>
+    ensures { option_map (λ m. (m.kind, m.owner.now, m.name.now, m.descriptor.now)) result
+        ≡ member_at places.now index }
+{
+    match const_at(places, index) {
+        Some(Const::Field(class, member)) => {
+            named_member(MemberTag::Field, places, *class, *member)
+        }
+        Some(Const::Method(class, member)) => {
+            named_member(MemberTag::Method, places, *class, *member)
+        }
+        Some(Const::InterfaceMethod(class, member)) => {
+            named_member(MemberTag::InterfaceMethod, places, *class, *member)
+        }
         _ => None,
     }
 }

@@ -146,21 +146,73 @@ fn added_with_texts(rt: HostRuntime) -> Result<(), Fail> {
     Ok(())
 }
 
-#[test]
-fn full(rt: HostRuntime) -> Result<(), Fail> {
-    let mut bytes = Vec::from_slice(rt.alloc(), b"\xff\xff\x03\x00\x00\x00\x07")?;
-    for _ in 1..65_534 {
+/// A pool of an Integer, and empty texts up to this count.
+fn long_pool(rt: &HostRuntime, count: u16) -> Result<Consts, Fail> {
+    let mut bytes = Vec::from_slice(rt.alloc(), &count.to_be_bytes())?;
+    bytes.extend_from_slice(b"\x03\x00\x00\x00\x07")?;
+    for _ in 2..count {
         bytes.extend_from_slice(b"\x01\x00\x00")?;
     }
-    let mut consts = match Consts::read(rt.alloc(), &bytes, 0) {
-        Ok((consts, _)) => consts,
-        Err(_) => return Err("no pool".into()),
-    };
+    match Consts::read(rt.alloc(), &bytes, 0) {
+        Ok((consts, _)) => Ok(consts),
+        Err(_) => Err("no pool".into()),
+    }
+}
+
+#[test]
+fn full(rt: HostRuntime) -> Result<(), Fail> {
+    let mut consts = long_pool(&rt, 65_535)?;
     assert_eq!(rt; consts.count(), 65_535);
     assert_eq!(rt; consts.add(Const::Integer(5)), Err(PoolStop::Full(65_536)));
     assert_eq!(rt; consts.add(Const::Long(5)), Err(PoolStop::Full(65_537)));
     assert_eq!(rt; consts.add(Const::Integer(7)), Ok(1));
     let empty = text(&rt, b"")?;
     assert_eq!(rt; consts.add_text(&empty), Ok(2));
+    let name = text(&rt, b"f")?;
+    assert_eq!(rt; consts.add_text(&name), Err(PoolStop::Full(65_536)));
+    assert_eq!(rt; consts.add_class(&name), Err(PoolStop::Full(65_536)));
+    assert_eq!(rt; consts.add_class(&empty), Err(PoolStop::Full(65_536)));
+    assert_eq!(rt;
+        consts.add_member(MemberTag::Field, &empty, &name, &empty),
+        Err(PoolStop::Full(65_536))
+    );
+    Ok(())
+}
+
+#[test]
+fn full_in_a_row(rt: HostRuntime) -> Result<(), Fail> {
+    let mut consts = long_pool(&rt, 65_532)?;
+    let name = text(&rt, b"f")?;
+    let other = text(&rt, b"g")?;
+    let empty = text(&rt, b"")?;
+    assert_eq!(rt; consts.add_class(&empty), Ok(65_532));
+    assert_eq!(rt;
+        consts.add_member(MemberTag::Method, &empty, &name, &empty),
+        Err(PoolStop::Full(65_536))
+    );
+    assert_eq!(rt; consts.add_text(&name), Ok(65_533));
+    assert_eq!(rt; consts.add_class(&empty), Ok(65_532));
+    assert_eq!(rt; consts.add_text(&other), Err(PoolStop::Full(65_536)));
+    assert_eq!(rt; consts.count(), 65_535);
+    Ok(())
+}
+
+#[test]
+fn named(rt: HostRuntime) -> Result<(), Fail> {
+    let consts = class_pool(&rt)?;
+    assert!(rt;
+        matches!(consts.name_and_type(9), Some((name, descriptor))
+            if name.bytes() == b"f".as_slice() && descriptor.bytes() == b"()V".as_slice())
+    );
+    assert!(rt; consts.name_and_type(10).is_none() && consts.member(9).is_none());
+    match consts.member(10) {
+        Some(member) => {
+            assert_eq!(rt; member.kind, MemberTag::Method);
+            assert_eq!(rt; member.owner.bytes(), b"A".as_slice());
+            assert_eq!(rt; member.name.bytes(), b"f".as_slice());
+            assert_eq!(rt; member.descriptor.bytes(), b"()V".as_slice());
+        }
+        None => return Err("no member".into()),
+    }
     Ok(())
 }

@@ -2,7 +2,6 @@ use Rattle.std.proofs.Common.{◌≡◌, ℕ, ◌+◌, ◌^◌, ◌<◌, ◌++�
 use Rattle.je_consts.specs.Pool.{is_wide, places_of, const_at}
 use Rattle.je_consts.proofs.AddLemmas.{keeps_front, const_added, taken_wide, taken_narrow, IsPool-added}
 use Rattle.je_consts.proofs.adding.add_to.Goals as goal
-use Rattle.je_consts.proofs.adding.add_to.Goals.{then-wide, else-wide}
 
 pub returns-clause-there : goal.returns-clause-there
 returns-clause-there c =
@@ -19,13 +18,5 @@ returns-clause-pool c =
     let old = c.args.places.now.items in
     let entry = c.args.entry in
     let len : c.len.result ≡ length old = c.len.ensures ∙ c.args.places.now.ok.0 in
-    let room : length old + length (places_of entry) + 1 < 2 ^ 16 =
-    elim c.if-wide.branch [
-      | then-wide w ↦
-          let wide : is_wide entry ≡ true = sym c.is_wide-wide.ensures ∙ w.if-wide.true in
-          omega (arith, taken_wide entry wide, w.count-is, len)
-      | else-wide w ↦
-          let narrow : is_wide entry ≡ false = sym c.is_wide-wide.ensures ∙ w.if-wide.false in
-          omega (arith, taken_narrow entry narrow, w.count-is, len)
-    ] in
+    let room : length old + length (places_of entry) + 1 < 2 ^ 16 = omega arith in
     rw c.in_ok-append.ensures.ok (IsPool-added old entry c.requires.pool c.fits.ensures c.requires.names room)

@@ -1,4 +1,4 @@
-use Rattle.je_consts.proofs.OneAnswer.{same_pool, pool_no_fault, one_fault}
+use Rattle.je_consts.proofs.OneAnswer.{same_pool, pool_no_fault, one_fault, some_answer}
 use Rattle.je_consts.proofs.laws.one_pool.Goals as goal
 
 pub returns-clause-same : goal.returns-clause-same
@@ -9,3 +9,6 @@ returns-clause-no_fault c = pool_no_fault
 
 pub returns-clause-one_fault : goal.returns-clause-one_fault
 returns-clause-one_fault c = one_fault
+
+pub returns-clause-some_answer : goal.returns-clause-some_answer
+returns-clause-some_answer c bytes at fits within = some_answer bytes at fits within

@@ -1,5 +1,7 @@
-use Rattle.std.proofs.Common.{inr}
+use Rattle.std.proofs.Common.{inr, rules}
+use Rattle.je_consts.specs.Adding.{AddsMember}
 use Rattle.je_consts.proofs.AddLemmas.{keeps_trans, class_kept, pair_kept, member_names, there_member}
+use Rattle.je_consts.proofs.OneAdd.{AddsMember-one, full_too}
 use Rattle.je_consts.proofs.consts.Consts.add_member.Goals as goal
 
 pub returns-in_err-member-clause-keeps : goal.returns-in_err-member-clause-keeps
@@ -28,3 +30,14 @@ pub returns-clause-keeps : goal.returns-clause-keeps
 returns-clause-keeps c =
     let front = keeps_trans c.args.self.now c.add_class.new.self c.add_name_and_type.new.self c.in_ok-class.ensures.keeps c.in_ok-member.ensures.keeps in
     keeps_trans c.args.self.now c.add_name_and_type.new.self c.add.new.self front c.add.ensures.keeps
+
+pub returns-in_err-member-clause-full : goal.returns-in_err-member-clause-full
+returns-in_err-member-clause-full c =
+    let R = AddsMember c.args.kind c.args.owner.now c.args.name.now c.args.descriptor.now in
+    let adds : R c.args.self.now c.from_residual-in_err-member.result c.add_name_and_type.new.self = search rules in
+    full_too R (AddsMember-one c.args.kind c.args.owner.now c.args.name.now c.args.descriptor.now) c.args.self.now c.from_residual-in_err-member.result c.add_name_and_type.new.self adds
+
+pub returns-clause-full : goal.returns-clause-full
+returns-clause-full c =
+    let R = AddsMember c.args.kind c.args.owner.now c.args.name.now c.args.descriptor.now in
+    full_too R (AddsMember-one c.args.kind c.args.owner.now c.args.name.now c.args.descriptor.now) c.args.self.now c.add.result c.add.new.self (returns-clause-adds c)
