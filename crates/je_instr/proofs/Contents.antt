@@ -10,8 +10,8 @@ use Rattle.je_consts.specs.declared.constant.MemberTag.TheVariants as tags
 use Rattle.je_consts.specs.declared.place.Place.{Place}
 use Rattle.je_consts.specs.declared.place.Place.TheVariants.{Entry, Second}
 use Rattle.je_consts.specs.Adding.{NamesMember}
-use Rattle.je_consts.specs.Pool.{tag, tag_at, entry_of, const_at, text_of, text_at, class_of, class_at, NamesAndTypes, IsMemberTag, Names, OfEntry, IsPool}
-use Rattle.je_instr.specs.Content.{Content, Field, Method, InterfaceMethod, Class, Str, Member, NameAndType, MethodHandle, MethodType, InvokeDynamic, sort_of, name_and_type_of, name_and_type_at, of_text, of_name_and_type, of_member, handle_of, content_of, content_at}
+use Rattle.je_consts.specs.Pool.{tag, tag_at, entry_of, const_at, text_of, text_at, class_of, class_at, NamesAndTypes, IsMemberTag, Names, OfEntry, IsPool, name_and_type_of, name_and_type_at}
+use Rattle.je_instr.specs.Content.{Content, Field, Method, InterfaceMethod, Class, Str, Member, NameAndType, MethodHandle, MethodType, InvokeDynamic, sort_of, of_text, of_name_and_type, of_member, handle_of, content_of, content_at}
 use Rattle.je_instr.proofs.Spelled.{some_is}
 
 named_pair : (consts : List Place) (i : ℕ) (name descriptor : List ℕ) → NamesAndTypes consts i name descriptor → name_and_type_at consts i ≡ Some (name, descriptor)

@@ -6,10 +6,10 @@ use Rattle.je_consts.specs.declared.constant.Const.{Const}
 use Rattle.je_consts.specs.declared.constant.Const.TheVariants as entry
 use Rattle.je_consts.specs.declared.place.Place.{Place}
 use Rattle.je_consts.specs.Adding.{Keeps}
-use Rattle.je_consts.specs.Pool.{const_at, text_of, text_at, class_of, class_at}
+use Rattle.je_consts.specs.Pool.{const_at, text_of, text_at, class_of, class_at, name_and_type_of, name_and_type_at}
 use Rattle.je_instr.specs.declared.instr.Instr.{Instr}
 use Rattle.je_instr.specs.declared.instr.Instr.TheVariants as instr
-use Rattle.je_instr.specs.Content.{Content, Field, Method, InterfaceMethod, Class, Str, Member, NameAndType, MethodHandle, MethodType, InvokeDynamic, name_and_type_of, name_and_type_at, of_text, of_name_and_type, of_member, handle_of, content_of, content_at}
+use Rattle.je_instr.specs.Content.{Content, Field, Method, InterfaceMethod, Class, Str, Member, NameAndType, MethodHandle, MethodType, InvokeDynamic, of_text, of_name_and_type, of_member, handle_of, content_of, content_at}
 use Rattle.je_instr.specs.Operation.{Operation}
 use Rattle.je_instr.specs.Resolves.{Resolves}
 

@@ -5,7 +5,7 @@ use Rattle.je_consts.specs.declared.constant.Const.TheVariants as entry
 use Rattle.je_consts.specs.declared.constant.MemberTag as consts
 use Rattle.je_consts.specs.declared.constant.MemberTag.TheVariants as tags
 use Rattle.je_consts.specs.declared.place.Place.{Place}
-use Rattle.je_consts.specs.Pool.{const_at, text_at, class_at}
+use Rattle.je_consts.specs.Pool.{const_at, text_at, class_at, name_and_type_at}
 
 -- which of the three sorts of members a constant names
 pub data MemberTag : Type 0 where
@@ -32,16 +32,6 @@ pub data Content : Type 0 where
   MethodHandle : (kind : ℕ) (tag : MemberTag) (class name descriptor : List ℕ) → Content
   MethodType : (descriptor : List ℕ) → Content
   InvokeDynamic : (bootstrap : ℕ) (name descriptor : List ℕ) → Content
-
--- the name and the descriptor of a CONSTANT_NameAndType
-abbrev pub name_and_type_of : List Place → Const → Option (List ℕ × List ℕ)
-name_and_type_of consts (entry.NameAndType name descriptor) =
-    option_and_then (λ n. option_and_then (λ d. Some (n, d)) (text_at consts descriptor)) (text_at consts name)
-name_and_type_of consts _ = None
-
--- the name and the descriptor of the CONSTANT_NameAndType at an index
-abbrev pub name_and_type_at : List Place → ℕ → Option (List ℕ × List ℕ)
-name_and_type_at consts i = option_and_then (name_and_type_of consts) (const_at consts i)
 
 -- what is made of the text at an index
 abbrev pub of_text : (List ℕ → Content) → List Place → ℕ → Option Content

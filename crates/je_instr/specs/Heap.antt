@@ -5,8 +5,9 @@ use Rattle.std.specs.declared.cmp.Ordering.{Ordering}
 use Rattle.std.specs.Ordering.{nat_cmp, ordering_then}
 use Rattle.std.specs.Cmp.Lexicographic.{slice_cmp}
 use Rattle.std.specs.FinMap.{FinMap, empty, get, insert}
+use Rattle.je_base.specs.Text.{is_same_text}
 use Rattle.je_instr.specs.Content.{Content, Class, Str, MethodHandle}
-use Rattle.je_instr.specs.Value.{Kind, Value, Obj, Const, zero_of, admit, narrowed, is_same_text}
+use Rattle.je_instr.specs.Value.{Kind, Value, Obj, Const, zero_of, admit, narrowed}
 
 -- a field by the class that holds it, its name and its descriptor
 abbrev pub FieldKey : Type 0

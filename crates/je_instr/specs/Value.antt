@@ -1,8 +1,8 @@
 -- Values of the machine (JVMS 2.3 and 2.4).
-use Rattle.std.specs.Prelude.{ℕ, ◌^◌, ℤ, pos, List, Bool, true, false, nat_eq, nat_lt, codes, if◌then◌else◌}
+use Rattle.std.specs.Prelude.{ℕ, ◌^◌, ℤ, pos, List, Bool, true, false, nat_lt, codes, if◌then◌else◌}
 use Rattle.std.specs.Ordering.{int_eq}
 use Rattle.std.specs.Int.{w8, w16, w32, w64, int_wrap, int_rem_euclid}
-use Rattle.std.specs.Cmp.Lexicographic.{pointwise}
+use Rattle.je_base.specs.Text.{is_same_text}
 use Rattle.je_instr.specs.Content.{Content, Class, Str, MethodHandle, MethodType}
 
 -- The computational types (JVMS 2.11.1): int stands for boolean, byte, char and short too.
@@ -51,10 +51,6 @@ is_of_kind ReferenceKind Null = true
 is_of_kind ReferenceKind (Obj number) = true
 is_of_kind ReferenceKind (Const content) = is_loadable content
 is_of_kind _ _ = false
-
--- texts are equal where their bytes are
-abbrev pub is_same_text : List ℕ → List ℕ → Bool
-is_same_text a b = pointwise nat_eq a b
 
 -- A value that enters the machine: one that is not of the kind wanted counts as the zero of that kind.
 abbrev pub admit : Kind → Value → Value

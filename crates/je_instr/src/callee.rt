@@ -2,7 +2,7 @@
 
 ghost use Rattle.std.specs.Prelude.{◌≡◌, ℕ, ◌↔◌, List, Some, codes, IsTrue, IfSome, IfNone};
 ghost use Rattle.std.specs.Option.{option_map};
-ghost use Rattle.je_instr.specs.Content.{Member, Method, name_and_type_at, content_at};
+ghost use Rattle.je_instr.specs.Content.{Member, Method, content_at};
 ghost use Rattle.je_instr.specs.Callee.{of_method};
 ghost use Rattle.je_instr.specs.Resolves.{IsCallable};
 
@@ -25,18 +25,6 @@ fn is_callable(class: &[u8], name: &[u8], descriptor: &[u8]) -> bool
     is_class_name(class) && name != CONSTRUCTOR && name != INITIALISER && descriptor == NO_ARGUMENTS
 }
 
-/// The name and the descriptor of a NameAndType.
-fn name_and_type_at(consts: &Consts, index: u16) -> Option<(&Text, &Text)>
-    ensures { option_map (λ pair. (pair.0.now, pair.1.now)) result ≡ name_and_type_at consts.now index }
-{
-    let Some(Const::NameAndType(name, descriptor)) = consts.get(index) else {
-        return None;
-    };
-    let name = consts.text(*name)?;
-    let descriptor = consts.text(*descriptor)?;
-    Some((name, descriptor))
-}
-
 /// The class, the name and the descriptor of a method.
 fn method_at(consts: &Consts, index: u16) -> Option<(&Text, &Text, &Text)>
     ensures { option_map (λ m. Member Method m.0.now m.1.now m.2.now) result
@@ -46,7 +34,7 @@ fn method_at(consts: &Consts, index: u16) -> Option<(&Text, &Text, &Text)>
         return None;
     };
     let class = consts.class_name(*class)?;
-    let (name, descriptor) = name_and_type_at(consts, *member)?;
+    let (name, descriptor) = consts.name_and_type(*member)?;
     Some((class, name, descriptor))
 }
 

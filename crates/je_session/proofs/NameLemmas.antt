@@ -5,7 +5,7 @@ use Rattle.std.specs.List.{list_any}
 use Rattle.std.proofs.lemmas.Bool.{or_cases, or_right, and_parts, false_from_ne_true}
 use Rattle.std.proofs.lemmas.Bool.Decides.{nat_tests}
 use Rattle.std.proofs.lemmas.Slice.Eq.{bytes_eq-Decides}
-use Rattle.je_instr.specs.Value.{is_same_text}
+use Rattle.je_base.specs.Text.{is_same_text}
 use Rattle.je_session.specs.Script.{reserved_words, BeginsName, IsIdent}
 use Rattle.je_session.specs.Reading.{is_reserved, begins_name, is_ident}
 

@@ -6,7 +6,7 @@ use Rattle.std.proofs.lemmas.Bool.{eqb-true}
 use Rattle.std.proofs.lemmas.List.{append-nil}
 use Rattle.std.proofs.lemmas.Option.{cond_some}
 use Rattle.std.proofs.lemmas.Slice.Eq.{bytes_eq-Decides}
-use Rattle.je_instr.specs.Value.{is_same_text}
+use Rattle.je_base.specs.Text.{is_same_text}
 use Rattle.je_session.specs.declared.plan.Fragment.{Fragment}
 use Rattle.je_session.specs.declared.plan.Fragment.TheVariants.{Empty, Proceed}
 use Rattle.je_session.specs.declared.plan.Rule.{Rule}

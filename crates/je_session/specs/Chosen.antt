@@ -2,8 +2,8 @@
 use Rattle.std.specs.Prelude.{ℕ, List, Option, option_and_then, slice_get, Bool, false, ◌&&◌, count_by, is_some}
 use Rattle.std.specs.Option.{option_map}
 use Rattle.std.specs.List.{find}
+use Rattle.je_base.specs.Text.{is_same_text}
 use Rattle.je_instr.specs.Content.{Member}
-use Rattle.je_instr.specs.Value.{is_same_text}
 use Rattle.je_instr.specs.Operation.{Operation, InvokeStatic, Program}
 use Rattle.je_session.specs.declared.plan.Fragment.{Fragment}
 use Rattle.je_session.specs.declared.plan.Rule.{Rule}

@@ -4,13 +4,13 @@
 use Rattle.std.specs.Prelude.{◌≡◌, ℕ, ◌+◌, ◌-◌, ◌^◌, ◌<◌, ◌≤◌, ◌⊎◌, Bool, false, ◌&&◌, nat_eq, nat_lt, List, [], ◌∷◌, ◌++◌, length, take, map, filter, codes}
 use Rattle.std.specs.List.{list_any, position_or_len, range_with_len}
 use Rattle.std.specs.Option.{option_map_or}
+use Rattle.je_base.specs.Text.{is_same_text}
 use Rattle.je_consts.specs.declared.place.Place.{Place}
 use Rattle.je_base.specs.Bytes.{u2, table}
 use Rattle.je_consts.specs.Pool.{text_at}
 use Rattle.je_instr.specs.declared.instr.Instr.{Instr}
 use Rattle.je_instr.specs.Code.{AttributeInfo, FitsTable}
 use Rattle.je_instr.specs.Spelling.{code_bytes}
-use Rattle.je_instr.specs.Value.{is_same_text}
 
 -- where the code of a line starts (JVMS 4.7.12)
 pub record LineRow : Type 0 where

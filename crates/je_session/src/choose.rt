@@ -21,7 +21,7 @@ use std::alloc::Global;
 fn fits(rule: &Rule, class_name: &Text, member: &Text) -> bool
     ensures { result ≡ fits (InvokeStatic (Member Method class_name.now member.now (codes "()V"))) rule.now }
 {
-    rule.class_name.bytes() == class_name.bytes() && rule.member.bytes() == member.bytes()
+    rule.class_name == *class_name && rule.member == *member
 }
 
 /// The fragment of the first rule for calls of this method.

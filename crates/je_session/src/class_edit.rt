@@ -45,5 +45,5 @@ pub fn edit_class(alloc: Global, script: &Script, bytes: &[u8]) -> Result<(Class
 fn is_named(class: &ClassFile, name: &Text) -> bool
     ensures { IsTrue result ↔ (class_at class.now.consts class.now.this_class ≡ Some name.now) }
 {
-    class.this_name().bytes() == name.bytes()
+    class.this_name() == name
 }

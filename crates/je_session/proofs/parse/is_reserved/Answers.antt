@@ -1,6 +1,6 @@
 use Rattle.std.proofs.Common.{◌∙◌, ap}
 use Rattle.std.specs.List.{list_any}
-use Rattle.je_instr.specs.Value.{is_same_text}
+use Rattle.je_base.specs.Text.{is_same_text}
 use Rattle.je_session.specs.declared.parse.TheConstants.{RESERVED}
 use Rattle.je_session.specs.Reading.{is_reserved}
 use Rattle.je_session.proofs.NameLemmas.{any-behind}
