@@ -1,35 +1,33 @@
 -- The content of a Code attribute and the parts of it.
-use Rattle.std.proofs.Common.{◌≡◌, ℕ, List, [], ◌∷◌, ◌++◌, length, Some, sym, ap, subst, ◌∙◌, arith}
-use Rattle.je_base.specs.Bytes.{u2, u4, table}
+use Rattle.std.proofs.Common.{◌≡◌, ℕ, List, [], ◌∷◌, ◌++◌, length, ap, subst, ◌∙◌, arith}
+use Rattle.je_base.specs.Bytes.{u2, u4, table, OneReading}
 use Rattle.je_instr.specs.declared.instr.Instr.{Instr}
 use Rattle.je_instr.specs.declared.code.MethodCode.{MethodCode}
 use Rattle.je_instr.specs.Spelling.{code_bytes}
 use Rattle.je_instr.specs.Code.{Code, CodeBytes, handler_layout, attribute_layout}
 use Rattle.je_instr.specs.Plain.{plain_code}
-use Rattle.je_instr.specs.Reading.{Head, head_of}
-use Rattle.je_instr.proofs.Spelled.{IsBytes, some_is}
-use Rattle.je_instr.proofs.Heads.{head_takes, head_again}
+use Rattle.je_instr.specs.Reading.{Head, IsHead}
+use Rattle.je_instr.proofs.Heads.{head_made, one_head}
 
 abbrev pub head_in : Code → Head
 head_in c = record { max_stack = c.max_stack; max_locals = c.max_locals; code = c.code; tables = table handler_layout c.handlers ++ table attribute_layout c.attributes }
 
-pub head_is : (bytes : List ℕ) (c : Code) → CodeBytes bytes c → head_of bytes ≡ Some (head_in c)
-head_is bytes c is = head_again bytes (head_in c) (record { parts = is.layout; max_stack = is.max_stack; max_locals = is.max_locals; some = is.code.0; most = is.code.1 })
+pub head_is : (bytes : List ℕ) (c : Code) → CodeBytes bytes c → IsHead bytes (head_in c)
+head_is bytes c is = record { layout = is.layout; max_stack = is.max_stack; max_locals = is.max_locals; some = is.code.0; most = is.code.1 }
 
 -- the same bytes, the same code
-pub one_code : (bytes : List ℕ) (c d : Code) → CodeBytes bytes c → CodeBytes bytes d → c.code ≡ d.code
-one_code bytes c d ic id = ap (λ (h : Head). h.code) (some_is (head_in c) (head_in d) (sym (head_is bytes c ic) ∙ head_is bytes d id))
+pub one_code : OneReading → (bytes : List ℕ) (c d : Code) → CodeBytes bytes c → CodeBytes bytes d → c.code ≡ d.code
+one_code one bytes c d ic id = ap (λ (h : Head). h.code) (one_head bytes one (head_in c) (head_is bytes c ic) (head_in d) (head_is bytes d id))
 
 abbrev pub no_tables : List ℕ
 no_tables = 0 ∷ 0 ∷ 0 ∷ 0 ∷ []
 
-pub is_plain : (bytes : List ℕ) (h : Head) (instrs : List Instr) → IsBytes bytes → head_of bytes ≡ Some h → h.tables ≡ no_tables → h.code ≡ code_bytes instrs
+pub is_plain : (bytes : List ℕ) (h : Head) (instrs : List Instr) → IsHead bytes h → h.tables ≡ no_tables → h.code ≡ code_bytes instrs
     → CodeBytes bytes (record { max_stack = h.max_stack; max_locals = h.max_locals; code = code_bytes instrs; handlers = []; attributes = [] })
-is_plain bytes h instrs fits e tables code =
-    let is = head_takes bytes h fits e in
+is_plain bytes h instrs is tables code =
     subst (λ (l : List ℕ). CodeBytes bytes (record { max_stack = h.max_stack; max_locals = h.max_locals; code = l; handlers = []; attributes = [] })) code
     (record {
-      layout = is.parts ∙ ap (λ (t : List ℕ). u2 h.max_stack ++ (u2 h.max_locals ++ (u4 (length h.code) ++ (h.code ++ t)))) tables;
+      layout = is.layout ∙ ap (λ (t : List ℕ). u2 h.max_stack ++ (u2 h.max_locals ++ (u4 (length h.code) ++ (h.code ++ t)))) tables;
       max_stack = is.max_stack;
       max_locals = is.max_locals;
       code = (is.some, is.most);
@@ -37,8 +35,8 @@ is_plain bytes h instrs fits e tables code =
       attributes = (omega arith, tt);
     })
 
--- what the bytes of a plain method's code are
-pub plain_head : (bytes : List ℕ) (m : MethodCode) → CodeBytes bytes (plain_code m) → head_of bytes ≡ Some (record { max_stack = m.max_stack; max_locals = m.max_locals; code = code_bytes m.instrs; tables = no_tables })
+-- the parts of a plain method's code
+pub plain_head : (bytes : List ℕ) (m : MethodCode) → CodeBytes bytes (plain_code m) → IsHead bytes (head_made m.max_stack m.max_locals (code_bytes m.instrs) no_tables)
 plain_head bytes m is = head_is bytes (plain_code m) is
 
 abbrev made : ℕ → ℕ → List Instr → MethodCode

@@ -1,19 +1,18 @@
 //! The content of a Code attribute (JVMS 4.7.3), so far without handlers and attributes.
 
-ghost use Rattle.std.specs.Prelude.{◌≡◌, ◌↔◌, ◌<◌, ◌^◌, [], ◌∷◌, length, IsTrue, IfOk, MatchResult};
+ghost use Rattle.std.specs.Prelude.{◌≡◌, ◌↔◌, ◌<◌, ◌^◌, [], ◌∷◌, length, IsTrue, IfOk, IfErr, MatchResult};
 ghost use Rattle.std.specs.List.{AllByRecursion};
-ghost use Rattle.std.specs.Int.{w16, w32};
-ghost use Rattle.std.specs.Option.{option_map};
 ghost use Rattle.je_instr.specs.Spelling.{code_bytes, FitsInstr};
 ghost use Rattle.je_instr.specs.Code.{CodeBytes};
 ghost use Rattle.je_instr.specs.Plain.{plain_code, head_view};
-ghost use Rattle.je_instr.specs.Reading.{number_at, run_at, head_of};
+ghost use Rattle.je_instr.specs.Reading.{IsHead};
+ghost use Rattle.je_instr.specs.Reading as parts;
 
 use crate::decoding::decode;
 use crate::encoding::encode;
 use crate::instr::Instr;
 use crate::stop::CodeStop;
-use je_base::Memory;
+use je_base::{Memory, one_reading, put_u16, put_u32, run_at, u16_at, u32_at};
 use sqlite_items::Items;
 use std::alloc::Global;
 
@@ -37,53 +36,23 @@ struct Head<'a> {
     tables: &'a [u8],
 }
 
-fn u16_at(bytes: &[u8]) -> Option<(u16, &[u8])>
-    ensures { option_map (λ x. (x.0, x.1.now)) result ≡ number_at w16 bytes.now }
+/// The parts of a Code attribute, whatever its tables are.
+fn head_of(info: &[u8]) -> Result<Head, CodeStop>
+    ensures found { IfOk result (λ h. IsHead info.now (head_view h)) }
+    ensures none { IfErr result (λ e. (e ≡ CodeStop.NotYet) × ((h : parts.Head) → IsHead info.now h → ⊥)) }
 {
-    if bytes.len() < 2 {
-        return None;
+    let (max_stack, at) = u16_at(info, 0)?;
+    let (max_locals, at) = u16_at(info, at)?;
+    let (len, at) = u32_at(info, at)?;
+    if len == 0 || len > 65535 {
+        return Err(CodeStop::NotYet);
     }
-    let (front, rest) = bytes.split_at(2);
-    Some((u16::from_be_bytes([front[0], front[1]]), rest))
-}
-
-fn u32_at(bytes: &[u8]) -> Option<(u32, &[u8])>
-    ensures { option_map (λ x. (x.0, x.1.now)) result ≡ number_at w32 bytes.now }
-{
-    if bytes.len() < 4 {
-        return None;
-    }
-    let (front, rest) = bytes.split_at(4);
-    Some((
-        u32::from_be_bytes([front[0], front[1], front[2], front[3]]),
-        rest,
-    ))
-}
-
-/// The code behind its length.
-#[tactic(auto, unfolding(crate::specs::Reading::run_at))]
-fn run_at(bytes: &[u8]) -> Option<(&[u8], &[u8])>
-    ensures { option_map (λ x. (x.0.now, x.1.now)) result ≡ run_at bytes.now }
-{
-    let (len, rest) = u32_at(bytes)?;
-    if len == 0 || len > 65535 || rest.len() < len as usize {
-        return None;
-    }
-    Some(rest.split_at(len as usize))
-}
-
-#[tactic(auto, unfolding(crate::specs::Reading::head_of))]
-fn head_of(info: &[u8]) -> Option<Head>
-    ensures { option_map head_view result ≡ head_of info.now }
-{
-    let (max_stack, rest) = u16_at(info)?;
-    let (max_locals, rest) = u16_at(rest)?;
-    let (code, tables) = run_at(rest)?;
-    Some(Head {
+    let (code, at) = run_at(info, at, len as usize)?;
+    Ok(Head {
         max_stack,
         max_locals,
         code,
-        tables,
+        tables: &info[at..],
     })
 }
 
@@ -108,9 +77,10 @@ pub fn read_code(alloc: Global, info: &[u8]) -> Result<MethodCode, CodeStop>
         → AllByRecursion FitsInstr c.instrs
         → MatchResult result (λ d. d ≡ c) (λ e. e ≡ CodeStop.Memory) }
 {
-    let Some(head) = head_of(info) else {
-        return Err(CodeStop::NotYet);
-    };
+    // The law of the layer below that the proof stands on.
+    one_reading();
+
+    let head = head_of(info)?;
     if !are_empty_tables(head.tables) {
         return Err(CodeStop::NotYet);
     }
@@ -131,9 +101,9 @@ pub fn write_code(alloc: Global, code: &MethodCode) -> Result<Vec<u8>, Memory>
 {
     let bytes = encode(alloc, code.instrs.as_slice())?;
     let mut out = Vec::new(alloc);
-    out.extend_from_slice(&code.max_stack.to_be_bytes())?;
-    out.extend_from_slice(&code.max_locals.to_be_bytes())?;
-    out.extend_from_slice(&(bytes.len() as u32).to_be_bytes())?;
+    put_u16(&mut out, code.max_stack)?;
+    put_u16(&mut out, code.max_locals)?;
+    put_u32(&mut out, bytes.len() as u32)?;
     out.extend_from_slice(&bytes)?;
     out.extend_from_slice(&[0, 0, 0, 0])?;
     Ok(out)

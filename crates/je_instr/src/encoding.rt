@@ -4,7 +4,7 @@ ghost use Rattle.std.specs.Prelude.{◌≡◌, ◌++◌, IfOk, OnOk};
 ghost use Rattle.je_instr.specs.Spelling.{instr_bytes, code_bytes};
 
 use crate::instr::Instr;
-use je_base::Memory;
+use je_base::{Memory, put_u16};
 use std::alloc::Global;
 
 fn put_instr(out: &mut Vec<u8>, instr: Instr) -> Result<(), Memory>
@@ -15,7 +15,7 @@ fn put_instr(out: &mut Vec<u8>, instr: Instr) -> Result<(), Memory>
         Instr::Return => out.push(177)?,
         Instr::InvokeStatic(index) => {
             out.push(184)?;
-            out.extend_from_slice(&index.to_be_bytes())?;
+            put_u16(out, index)?;
         }
     }
     Ok(())

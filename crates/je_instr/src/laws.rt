@@ -19,6 +19,8 @@ ghost use Rattle.je_instr.specs.Sample.{call_event, value_answer, throw_answer, 
 ghost use Rattle.je_instr.specs.Spelling.{instr_bytes, code_bytes, FitsInstr};
 ghost use Rattle.je_instr.specs.View.{View, IsViewPrefix, IsSteady, view_of, with_more};
 
+use je_base::one_reading;
+
 /// Beginning a view is a partial order.
 pub fn views_begin_views()
     ensures reflexive { (v : View) → IsViewPrefix v v }
@@ -44,7 +46,10 @@ pub fn one_program()
         → code_bytes is ≡ code_bytes js → is ≡ js }
     ensures operations { (consts : List Place) (is : List Instr) (a b : List Operation) →
         AllZip (Resolves consts) is a → AllZip (Resolves consts) is b → a ≡ b }
-{}
+{
+    // The law of the layer below that the proof stands on.
+    one_reading();
+}
 
 /// What the entries of a constant pool say, with what they name in place (JVMS 4.4).
 pub fn constants_mean()

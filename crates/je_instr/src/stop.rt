@@ -3,7 +3,7 @@
 ghost use Rattle.std.specs.Prelude.{◌≡◌};
 ghost use Rattle.je_instr.specs.declared.stop.CodeStop.TheVariants as stop;
 
-use je_base::Memory;
+use je_base::{Cut, Memory};
 use std::alloc::{AllocError, AllocFailed};
 
 /// Why code was not read.
@@ -13,6 +13,14 @@ pub enum CodeStop {
     NotYet,
     /// There was not enough memory.
     Memory,
+}
+
+impl From<Cut> for CodeStop {
+    ghost from_gives = { λ _ e. e ≡ stop.NotYet };
+
+    fn from(_e: Cut) -> CodeStop {
+        CodeStop::NotYet
+    }
 }
 
 impl From<AllocError> for CodeStop {

@@ -5,7 +5,7 @@ use Rattle.je_instr.proofs.Spelled.{one_spelling}
 use Rattle.je_instr.proofs.laws.one_program.Goals as goal
 
 pub returns-clause-code : goal.returns-clause-code
-returns-clause-code c = one_code
+returns-clause-code c = one_code c.one_reading.ensures
 
 pub returns-clause-instrs : goal.returns-clause-instrs
 returns-clause-instrs c = λ is js fits fits' e. sym (one_spelling is js fits fits' e)
