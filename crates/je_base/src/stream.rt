@@ -8,10 +8,14 @@ use crate::stop::{Failed, FileStop, Memory};
 use std::alloc::Global;
 use std::io::{ErrorKind, Read, Write};
 
-/// How many bytes are read at once.
+/// How many bytes are asked for at first: most class files are shorter.
+const FIRST: usize = 8_192;
+
+/// How many bytes are asked for at once, at most. Before that, as many as were read so far.
 const PIECE: usize = 65_536;
 
-/// Reads the first `limit` bytes, or all where there are fewer. A source that gives nothing is at its end.
+/// Reads the first `limit` bytes, or all where there are fewer. A source that gives nothing is at its
+/// end.
 pub fn read_front<S: Read>(alloc: Global, from: &mut S, limit: usize) -> Result<Vec<u8>, FileStop>
     ensures within { IfOk result (λ bytes. vec_len bytes ≤ limit) }
     ensures front { IfOk result (λ bytes. IsFrontOf (S.remaining from.old) limit bytes.items) }
@@ -19,7 +23,7 @@ pub fn read_front<S: Read>(alloc: Global, from: &mut S, limit: usize) -> Result<
     let mut bytes = Vec::new(alloc);
     let mut filled = 0;
     for _ in 0..u64::MAX {
-        let wanted = PIECE.min(limit - filled);
+        let wanted = filled.max(FIRST).min(PIECE).min(limit - filled);
         if wanted == 0 {
             bytes.truncate(filled);
             return Ok(bytes);
