@@ -1,5 +1,5 @@
 -- A class file whose constant pool has grown.
-use Rattle.std.proofs.Common.{◌≡◌, ℕ, zero, suc, ◌^◌, ◌<◌, ◌⊎◌, List, [], ◌∷◌, length, Option, Some, None, refl, inl, inr}
+use Rattle.std.proofs.Common.{◌≡◌, ℕ, ◌^◌, ◌<◌, ◌⊎◌, List, [], ◌∷◌, length, Option, Some, None, refl, inl, inr}
 use Rattle.std.proofs.lemmas.List.Elements.{All-from_recursion, recursion_from_All}
 use Rattle.std.specs.Prelude.{All, IsSome, IsSomeAnd, option_and_then}
 use Rattle.std.specs.List.{AllByRecursion}
@@ -10,11 +10,10 @@ use Rattle.je_consts.specs.Adding.{Keeps}
 use Rattle.je_consts.specs.Pool.{const_at, text_of, text_at, class_of, class_at, IsPool}
 use Rattle.je_desc.specs.Names.{IsClassName}
 use Rattle.je_desc.specs.Descriptor.{FieldDescriptor}
-use Rattle.je_class.specs.declared.member.Attribute.{Attribute}
 use Rattle.je_class.specs.declared.member.Member.{Member}
 use Rattle.je_class.specs.Class.{Class, IsClassIndex, IsTextIndex, IsDescriptorOf, with_code}
 use Rattle.je_class.specs.FileParts.{Test, IsMagic, IsVersion, NamesClass, NamesSuper, NamesText, NamesAttribute, DescribesField, DescribesMethod, Passes, Part, U2, U4, Run, Pool, IsSoundPart, class_parts, IsSound}
-use Rattle.je_class.specs.Sound.{IsSoundAttribute, IsSoundInterface, IsSoundMember, IsSoundField, IsSoundMethod, HasSoundParts}
+use Rattle.je_class.specs.Sound.{IsSoundAttribute, IsSoundInterface, IsSoundMember, IsSoundField, IsSoundMethod}
 use Rattle.je_class.specs.Grown.{IsSameText, IsSameClass, IsSameAttribute, IsSameMember, NamesStay}
 use Rattle.je_class.proofs.Changes.{IsSound-with_method_attribute}
 use Rattle.je_class.proofs.SoundParts.{HasSoundParts-sound}

@@ -13,3 +13,4 @@ pub mod ReadLemmas
 pub mod OneAnswer
 pub mod SoundParts
 pub mod Grown
+pub mod SummaryFits

@@ -1,12 +1,12 @@
 -- What holds of each item of a class file whose parts are sound.
-use Rattle.std.proofs.Common.{ℕ, List, length, ◌^◌, ◌<◌}
+use Rattle.std.proofs.Common.{ℕ, List}
 use Rattle.std.proofs.lemmas.List.Elements.{All-from_recursion}
 use Rattle.std.specs.List.{AllByRecursion}
 use Rattle.je_consts.specs.declared.place.Place.{Place}
 use Rattle.je_class.specs.declared.member.Attribute.{Attribute}
 use Rattle.je_class.specs.declared.member.Member.{Member}
 use Rattle.je_class.specs.Class.{Class}
-use Rattle.je_class.specs.FileParts.{Part, IsSoundPart, each, table_parts, interface_parts, attribute_parts, field_parts, method_parts, IsSound}
+use Rattle.je_class.specs.FileParts.{Part, IsSoundPart, each, interface_parts, attribute_parts, field_parts, method_parts, IsSound}
 use Rattle.je_class.specs.Sound.{IsSoundAttribute, IsSoundInterface, IsSoundField, IsSoundMethod, HasSoundParts}
 use Rattle.std.specs.Prelude.{All}
 use Rattle.je_class.proofs.Alls.{all_each}

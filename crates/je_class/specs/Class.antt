@@ -1,11 +1,11 @@
 -- A class file as a record (JVMS 4.1), and what its indexes name.
-use Rattle.std.specs.Prelude.{◌≡◌, ℕ, zero, suc, ◌+◌, ◌<◌, ◌≤◌, ◌⊎◌, List, [], ◌∷◌, Some, IsSome, IfSome, IsSomeAnd, slice_get, IsBitSet}
+use Rattle.std.specs.Prelude.{◌≡◌, ℕ, zero, suc, ◌<◌, List, [], ◌∷◌, Some, IsSome, IfSome, IsSomeAnd, slice_get}
 use Rattle.je_consts.specs.declared.place.Place.{Place}
 use Rattle.je_consts.specs.Pool.{text_at, class_at}
 use Rattle.je_class.specs.declared.member.Attribute.{Attribute}
 use Rattle.je_class.specs.declared.member.Member.{Member}
 use Rattle.je_desc.specs.Names.{IsClassName}
-use Rattle.je_desc.specs.Descriptor.{MethodDescriptor}
+pub use Rattle.je_desc.specs.Descriptor.{IsDescriptorOf}
 
 -- the items of a ClassFile structure, in the order of the file; the magic number and the counts follow from them
 pub record Class : Type 0 where
@@ -27,11 +27,6 @@ IsClassIndex consts i = IsSomeAnd (class_at consts i) IsClassName
 -- the index of a text
 abbrev pub IsTextIndex : List Place → ℕ → Type 0
 IsTextIndex consts i = IsSome (text_at consts i)
-
--- The descriptor of a method with these access flags. Its parameters have at most 255 units, and `this` is one of them
--- unless the method is static (JVMS 4.3.3).
-abbrev pub IsDescriptorOf : ℕ → List ℕ → Type 0
-IsDescriptorOf access text = (n : ℕ) × MethodDescriptor text n × (IsBitSet access 3 ⊎ (n + 1 ≤ 255))
 
 -- the method has this name and this descriptor
 pub record IsNamed (consts : List Place) (name descriptor : List ℕ) (m : Member) : Type 0 where

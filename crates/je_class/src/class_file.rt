@@ -3,6 +3,7 @@
 ghost use Rattle.std.specs.Prelude.{◌≡◌, ◌≢◌, ◌^◌, ◌<◌, length, Some, IfSome, IfNone, IfOk, All, slice_get, IsSomeAnd};
 ghost use Rattle.je_consts.specs.Adding.{Keeps};
 ghost use Rattle.je_consts.specs.Pool.{class_at};
+ghost use Rattle.je_desc.specs.Fit.{IsFit};
 ghost use Rattle.je_class.specs.Class.{IsNamed, IsMethodAt, with_attribute, with_method_attribute, with_code, changed_at};
 ghost use Rattle.je_class.specs.FileParts.{IsSound};
 ghost use Rattle.je_class.specs.InMemory.{class_of_parts};
@@ -182,8 +183,12 @@ impl ClassFile {
 
     /// The class as other classes see it.
     pub fn summary(&self) -> Result<Summary, Memory>
-        ensures { IfOk result (IsSummary self.now) }
+        ensures summary { IfOk result (IsSummary self.now) }
+
+        // Its names are those of classes, its descriptors are descriptors, and each text is short.
+        ensures fit { IfOk result IsFit }
     {
+        self.sound();
         summary_of(self)
     }
 

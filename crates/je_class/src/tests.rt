@@ -1,5 +1,6 @@
 use super::*;
 use je_base::Text;
+use je_consts::Const;
 use je_desc::Summary;
 use sqlite_items::Items;
 use std::test::*;
@@ -75,11 +76,11 @@ fn comes_back(rt: &HostRuntime, bytes: &[u8]) -> Result<bool, Fail> {
     Ok(written.as_slice() == bytes && again.as_slice() == bytes)
 }
 
-/// What class `A` is written as with another text, its last constant, and three bytes for the code of its method.
+/// What class `A` is written as with a number as its last constant, and three bytes for the code of its method.
 fn with_code(rt: &HostRuntime) -> Result<Vec<u8>, Fail> {
     let mut class = class_of(rt, &BYTES)?;
     let mut consts = class.consts().copy()?;
-    if consts.add_text(&text(rt, b"g")?).ok() != Some(11) {
+    if consts.add(Const::Integer(7)).ok() != Some(11) {
         return Err("index 11".into());
     }
     let [method] = class.methods() else {
@@ -121,6 +122,16 @@ fn first_bytes_alone(rt: HostRuntime) -> Result<(), Fail> {
 }
 
 #[test]
+fn most_bytes(rt: HostRuntime) -> Result<(), Fail> {
+    let mut bytes = Vec::from_slice(rt.alloc(), &BYTES)?;
+    bytes.resize(16_777_216, 0)?;
+    assert_eq!(rt; fault_of(&rt, &bytes), Some(ClassFault::Trailing(114)));
+    bytes.push(0)?;
+    assert_eq!(rt; fault_of(&rt, &bytes), Some(ClassFault::TooLong));
+    Ok(())
+}
+
+#[test]
 fn one_byte_set(rt: HostRuntime) -> Result<(), Fail> {
     let table = [
         (0, 0x00, Some(ClassFault::BadMagic)),
@@ -158,7 +169,7 @@ fn written_and_copied(rt: HostRuntime) -> Result<(), Fail> {
 #[test]
 fn code_set_with_a_grown_pool(rt: HostRuntime) -> Result<(), Fail> {
     let mut wanted = Vec::from_slice(rt.alloc(), part(&with_byte(9, 12), 0, 70)?)?;
-    wanted.extend_from_slice(b"\x01\x00\x01g")?;
+    wanted.extend_from_slice(b"\x03\x00\x00\x00\x07")?;
     wanted.extend_from_slice(part(&BYTES, 70, 92)?)?;
     wanted.extend_from_slice(b"\x00\x00\x00\x03\x07\x08\x09")?;
     wanted.extend_from_slice(part(&BYTES, 112, 114)?)?;

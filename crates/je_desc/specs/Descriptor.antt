@@ -1,5 +1,5 @@
 -- Which bytes are descriptors of fields and of methods (JVMS SE 8, 4.3.2 and 4.3.3).
-use Rattle.std.specs.Prelude.{◌≡◌, ℕ, ◌≤◌, List, [], ◌∷◌, ◌++◌, Option, Some, None, IfSome}
+use Rattle.std.specs.Prelude.{◌≡◌, ℕ, ◌+◌, ◌≤◌, ◌⊎◌, List, [], ◌∷◌, ◌++◌, Option, Some, None, IfSome, IsBitSet}
 use Rattle.std.specs.List.{flat_map, sum_by, AllByRecursion}
 use Rattle.je_desc.specs.FieldType.{Long, Double, FieldType, Base, IsFieldType, descriptor}
 
@@ -48,3 +48,8 @@ SpellsMethod bytes m = IsMethodTypes m × (bytes ≡ method_descriptor m)
 -- the bytes are a method descriptor, whose parameters have so many units
 abbrev pub MethodDescriptor : List ℕ → ℕ → Type 0
 MethodDescriptor bytes n = (m : MethodTypes) × SpellsMethod bytes m × (n ≡ units_of_params m)
+
+-- The descriptor of a method with these access flags. Its parameters have at most 255 units, and `this` is one of them
+-- unless the method is static (JVMS 4.3.3).
+abbrev pub IsDescriptorOf : ℕ → List ℕ → Type 0
+IsDescriptorOf access text = (n : ℕ) × MethodDescriptor text n × (IsBitSet access 3 ⊎ (n + 1 ≤ 255))

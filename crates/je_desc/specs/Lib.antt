@@ -3,3 +3,4 @@ pub mod FieldType
 pub mod Descriptor
 pub mod Front
 pub mod Types
+pub mod Fit
