@@ -58,4 +58,5 @@ with_method_attribute method attribute bytes c = record c { methods = changed_at
 
 -- a class with another constant pool, of which one method's attribute has other bytes
 abbrev pub with_code : ℕ → ℕ → List ℕ → List Place → Class → Class
-with_code method attribute bytes consts c = record c { consts = consts; methods = changed_at method (with_attribute attribute bytes) c.methods }
+with_code method attribute bytes consts c =
+    record c { consts = consts; methods = changed_at method (with_attribute attribute bytes) c.methods }

@@ -1,5 +1,5 @@
--- What holds of every class file in memory, item by item (JVMS 4.1 and 4.5 to 4.7): each number fits its bytes, and
--- each index names what it has to.
+-- What holds of every class file in memory, item by item (JVMS 4.1 and 4.5 to 4.7): each number fits
+-- its bytes, and each index names what it has to.
 use Rattle.std.specs.Prelude.{◌≡◌, ℕ, ◌^◌, ◌<◌, ◌≤◌, ◌⊎◌, List, length, All, IsSomeAnd}
 use Rattle.je_consts.specs.declared.place.Place.{Place}
 use Rattle.je_consts.specs.Pool.{text_at, IsPool}
@@ -15,9 +15,9 @@ pub record IsSoundAttribute (consts : List Place) (a : Attribute) : Type 0 where
   pub length_fits : length a.bytes < 2 ^ 32
 
 -- a field or a method whose name is a text, and whose descriptor is a text of which this holds
-pub record IsSoundMember (IsDescriptor : List ℕ → Type 0) (consts : List Place) (m : Member) : Type 0 where
+pub record IsSoundMember (P : List ℕ → Type 0) (consts : List Place) (m : Member) : Type 0 where
   pub name : IsTextIndex consts m.name
-  pub descriptor : IsSomeAnd (text_at consts m.descriptor) IsDescriptor
+  pub descriptor : IsSomeAnd (text_at consts m.descriptor) P
   pub attributes : All (IsSoundAttribute consts) m.attributes
   pub access_fits : m.access < 2 ^ 16
   pub name_fits : m.name < 2 ^ 16

@@ -56,7 +56,8 @@ impl ClassFile {
         &self.parts
     }
 
-    /// What holds of every class file in memory: each number fits its bytes, and each index names what it has to.
+    /// What holds of every class file in memory: each number fits its bytes, and each index names
+    /// what it has to; `parts` says so item by item.
     pub fn sound(&self)
         ensures sound { IsSound self.now }
         ensures parts { HasSoundParts self.now }
@@ -202,10 +203,11 @@ impl ClassFile {
         set_attribute(&mut self.parts.methods, method, attribute, bytes);
     }
 
-    /// Puts other bytes, fewer than 4,294,967,296, into an attribute of a method, as `set_method_attribute` does, and a
-    /// constant pool that has grown out of the class's own in its place.
+    /// Puts other bytes, fewer than 4,294,967,296, into an attribute of a method, as
+    /// `set_method_attribute` does, and a constant pool that has grown in the place of the class's.
     ///
-    /// Such a pool is a copy of `consts` to which constants were added: each index that was there names what it named.
+    /// Such a pool is a copy of `consts` to which constants were added: each index that was there
+    /// names what it named.
     pub fn set_code(&mut self, method: usize, attribute: usize, bytes: Items<u8>, consts: Consts)
         requires is_there { IsSomeAnd (slice_get self.old.methods method)
             (λ m. attribute < length m.attributes) }

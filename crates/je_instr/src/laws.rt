@@ -77,13 +77,15 @@ pub fn constants_mean()
         → content_at consts i ≡ Some (InvokeDynamic b name descriptor) }
 {}
 
-/// What the constants of a pool say, and what the instructions are that name them, stays as it is while the pool grows.
+/// What the constants of a pool say, and what the instructions are that name them, stays as it is
+/// while the pool grows.
 pub fn contents_stay()
     ensures content { (old new : List Place) → Keeps old new → (i : ℕ) (content : Content) →
         content_at old i ≡ Some content → content_at new i ≡ Some content }
     ensures resolves { (old new : List Place) → Keeps old new → (i : Instr) (o : Operation) →
         Resolves old i o → Resolves new i o }
-    ensures operations { (old new : List Place) → Keeps old new → (is : List Instr) (a : List Operation) →
+    ensures operations { (old new : List Place) → Keeps old new →
+        (is : List Instr) (a : List Operation) →
         AllZip (Resolves old) is a → AllZip (Resolves new) is a }
 {}
 
