@@ -13,11 +13,12 @@ mod copying;
 mod entries;
 mod fault;
 mod fields;
+mod index;
 mod laws;
 mod lookup;
+mod named;
 mod place;
 mod reading;
-mod same;
 mod writing;
 
 pub use constant::{Const, Member, MemberTag};
