@@ -1,6 +1,5 @@
-use Rattle.std.proofs.Common.{◌≡◌, ◌++◌, List, sym, subst}
+use Rattle.std.proofs.Common.{◌≡◌, ◌++◌, sym, subst}
 use Rattle.std.proofs.lemmas.List.{append-nil}
-use Rattle.je_consts.specs.declared.place.Place.{Place}
 use Rattle.je_consts.specs.Pool.{IsPool}
 use Rattle.je_consts.proofs.consts.Consts.of_places.Goals as goal
 
