@@ -1,6 +1,6 @@
 -- Places with more behind them: what the indexes hold, and what the entries name.
 use Rattle.std.proofs.Common.{◌≡◌, ℕ, zero, suc, ◌+◌, ◌^◌, ◌≤◌, ◌<◌, List, [], ◌∷◌, ◌++◌, length, Some, IsSomeAnd, Bool, true, false, add-one, refl, ap, ◌∙◌, append_assoc, arith, length-append, inl, inr}
-use Rattle.std.specs.Prelude.{Option, Result, Ok, Err, IfOk, slice_get, option_and_then}
+use Rattle.std.specs.Prelude.{Option, Result, Ok, Err, IfOk, OnOk, OnErr, slice_get, option_and_then}
 use Rattle.std.specs.Option.{option_map}
 use Rattle.std.specs.List.{AllByRecursion}
 use Rattle.std.proofs.lemmas.Bool.{cases_lt}
@@ -112,6 +112,13 @@ IsPool-added places c pool fits names room = record {
   names = All-append (OfEntry (Names (places ++ places_of c))) places (places_of c) (all_stay places (places_of c) places pool.names) (All-places_of (Names (places ++ places_of c)) c (Names_stay places (places_of c) c names));
   count = omega (arith, length-append places (places_of c));
 }
+
+-- the same where the new entry stands behind the second of two lists of places
+pub IsPool-grown : {A E : Type 0} (r : Result A E) (base old new : List Place) (c : Const) → IsPool (base ++ old) → Fits c → Names (base ++ old) c → length (base ++ old) + length (places_of c) + 1 < 2 ^ 16
+    → OnOk r (new ≡ old ++ places_of c) → OnErr r (new ≡ old) → IsPool (base ++ new)
+IsPool-grown (Ok x) base old new c pool fits names room ok err =
+    rw (ok, ← append_assoc base old (places_of c)) (IsPool-added (base ++ old) c pool fits names room)
+IsPool-grown (Err e) base old new c pool fits names room ok err = rw err pool
 
 -- ---- adding
 

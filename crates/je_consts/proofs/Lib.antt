@@ -11,3 +11,4 @@ pub mod AddLemmas
 pub mod ExactLemmas
 pub mod OneAnswer
 pub mod OneAdd
+pub mod IndexLemmas

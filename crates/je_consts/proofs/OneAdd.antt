@@ -1,5 +1,5 @@
 -- What an add answers and what it leaves is one thing, unless memory runs out.
-use Rattle.std.proofs.Common.{◌≡◌, ℕ, ◌+◌, ◌≤◌, ◌⊎◌, List, length, refl, sym, subst, ◌∙◌, arith, inl, inr}
+use Rattle.std.proofs.Common.{◌≡◌, ℕ, ◌⊎◌, List, refl, sym, subst, ◌∙◌, arith, inl, inr}
 use Rattle.std.specs.Prelude.{Result, Ok, Err}
 use Rattle.je_consts.specs.declared.constant.Const.{Const}
 use Rattle.je_consts.specs.declared.constant.Const.TheVariants.{Utf8, Class, NameAndType}
@@ -7,7 +7,6 @@ use Rattle.je_consts.specs.declared.constant.MemberTag.{MemberTag}
 use Rattle.je_consts.specs.declared.fault.PoolStop.{PoolStop}
 use Rattle.je_consts.specs.declared.fault.PoolStop.TheVariants as stops
 use Rattle.je_consts.specs.declared.place.Place.{Place}
-use Rattle.je_consts.specs.Pool.{places_of}
 use Rattle.je_consts.specs.Adding.{Adds, Then, AddsClass, AddsNameAndType, AddsMember, member_of}
 
 abbrev pub Answers : Type 1

@@ -29,3 +29,7 @@ all_by P false c h = (h, tt)
 
 pub All-places_of : (P : Const → Type 0) (c : Const) → P c → AllByRecursion (OfEntry P) (places_of c)
 All-places_of P c h = all_by P (is_wide c) c h
+
+pub All-behind : (P : Place → Type 0) (xs ys : List Place) → AllByRecursion P (xs ++ ys) → AllByRecursion P ys
+All-behind P [] ys h = h
+All-behind P (x ∷ xs) ys h = All-behind P xs ys h.1

@@ -3,3 +3,4 @@ pub mod Layout
 pub mod Reading
 pub mod Faults
 pub mod Adding
+pub mod Indexed

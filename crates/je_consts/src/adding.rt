@@ -1,21 +1,21 @@
 //! Entries that are added to a constant pool.
 
 ghost use Rattle.std.specs.Prelude.{◌≡◌, ℕ, ◌+◌, ◌++◌, ◌^◌, ◌<◌, ◌↔◌, length, Some, IsTrue, IfSome, IfNone, IfOk, OnOk, OnErr, Err};
-ghost use Rattle.je_consts.specs.Adding.{IsLawful, IsMissing, IsLeastIndex, IsFull, Adds, Keeps};
-ghost use Rattle.je_consts.specs.Pool.{places_of, entry_of, const_at, Names, Fits, IsPool};
+ghost use Rattle.je_consts.specs.Adding.{IsLawful, IsMissing, IsLeastIndex};
+ghost use Rattle.je_consts.specs.Indexed.{IsIndexOf};
+ghost use Rattle.je_consts.specs.Pool.{places_of, entry_of, Fits};
 
 use crate::constant::Const;
-use crate::fault::PoolStop;
+use crate::index::Index;
 use crate::place::Place;
 use crate::reading::is_wide;
-use crate::same::is_same;
 use je_base::{Memory, Text};
 
 /// The greatest count of a pool.
-const MOST: u32 = 65_535;
+pub(crate) const MOST: u32 = 65_535;
 
 /// Reads each part of an entry and does nothing else: its numbers fit their types, and its text is a text.
-fn fits(entry: &Const)
+pub(crate) fn fits(entry: &Const)
     requires { IsLawful entry.now }
     ensures { Fits entry.now }
 {
@@ -55,13 +55,13 @@ fn holds(place: &Place, entry: &Const) -> bool
     ensures { IsTrue result ↔ (entry_of place.now ≡ Some entry.now) }
 {
     match place {
-        Place::Entry(found) => is_same(found, entry),
+        Place::Entry(found) => found == entry,
         Place::Second => false,
     }
 }
 
 /// The least index that holds this entry.
-fn index_of(places: &[Place], entry: &Const) -> Option<u16>
+pub(crate) fn index_of(places: &[Place], entry: &Const) -> Option<u16>
     requires { length places.now + 1 < 2 ^ 16 }
     ensures some { IfSome result (IsLeastIndex places.now entry.now) }
     ensures none { IfNone result (IsMissing places.now entry.now) }
@@ -78,13 +78,13 @@ fn holds_text(place: &Place, text: &Text) -> bool
     ensures { IsTrue result ↔ (entry_of place.now ≡ Some (Const.Utf8 text.now)) }
 {
     match place {
-        Place::Entry(Const::Utf8(found)) => found.bytes() == text.bytes(),
+        Place::Entry(Const::Utf8(found)) => found == text,
         _ => false,
     }
 }
 
 /// The least index that holds the Utf8 of this text.
-fn index_of_text(places: &[Place], text: &Text) -> Option<u16>
+pub(crate) fn index_of_text(places: &[Place], text: &Text) -> Option<u16>
     requires { length places.now + 1 < 2 ^ 16 }
     ensures some { IfSome result (IsLeastIndex places.now (Const.Utf8 text.now)) }
     ensures none { IfNone result (IsMissing places.now (Const.Utf8 text.now)) }
@@ -113,49 +113,29 @@ fn append(places: &mut Vec<Place>, entry: Const) -> Result<(), Memory>
 }
 
 /// How many indexes an entry takes.
-fn indexes_of(entry: &Const) -> u32
+pub(crate) fn indexes_of(entry: &Const) -> u32
     ensures { result ≡ length (places_of entry.now) }
 {
     if is_wide(entry) { 2 } else { 1 }
 }
 
-/// Adds an entry, or finds its least index.
-pub(crate) fn add_to(places: &mut Vec<Place>, entry: Const) -> Result<u16, PoolStop>
-    requires pool { IsPool places.old.items }
-    requires lawful { IsLawful entry }
-    requires names { Names places.old.items entry }
-    ensures adds { Adds entry places.old.items result places.new.items }
-    ensures full { (n : ℕ) → IsFull places.old.items entry n → result ≡ Err (PoolStop.Full n) }
-    ensures there { IfOk result (λ index. const_at places.new.items index ≡ Some entry) }
-    ensures keeps { Keeps places.old.items places.new.items }
-    ensures pool { IsPool places.new.items }
+/// Puts the places of an entry at the end, and takes them into the index where there is one.
+pub(crate) fn grow(
+    places: &mut Vec<Place>,
+    index: &mut Option<Index>,
+    entry: Const,
+) -> Result<(), Memory>
+    requires room { length places.old.items + length (places_of entry) + 1 < 2 ^ 16 }
+    requires index { IfSome index.old (IsIndexOf places.old.items) }
+    ensures ok { OnOk result (places.new.items ≡ places.old.items ++ places_of entry) }
+    ensures err { OnErr result (places.new.items ≡ places.old.items) }
+    ensures index { IfSome index.new (IsIndexOf places.new.items) }
 {
-    if let Some(index) = index_of(places, &entry) {
-        return Ok(index);
-    }
-    fits(&entry);
-    let old_count = places.len() as u32 + 1;
-    let count = old_count + indexes_of(&entry);
-    if count > MOST {
-        return Err(PoolStop::Full(count));
-    }
+    let from = places.len();
     append(places, entry)?;
-    Ok(old_count as u16)
-}
-
-/// The least index of a text's Utf8, or why it is not added where there is no memory for a copy of it.
-pub(crate) fn without_copy(places: &[Place], text: &Text) -> Result<u16, PoolStop>
-    requires { length places.now + 1 < 2 ^ 16 }
-    ensures adds { Adds (Const.Utf8 text.now) places.now result places.now }
-    ensures full { (n : ℕ) → IsFull places.now (Const.Utf8 text.now) n → result ≡ Err (PoolStop.Full n) }
-    ensures there { IfOk result (λ index. const_at places.now index ≡ Some (Const.Utf8 text.now)) }
-{
-    if let Some(index) = index_of_text(places, text) {
-        return Ok(index);
-    }
-    let count = places.len() as u32 + 2;
-    if count > MOST {
-        return Err(PoolStop::Full(count));
-    }
-    Err(PoolStop::Memory)
+    *index = match index.take() {
+        Some(index) => index.noted(places, from),
+        None => None,
+    };
+    Ok(())
 }

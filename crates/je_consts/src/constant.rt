@@ -5,7 +5,7 @@ use je_base::Text;
 /// An entry of the constant pool (JVMS 4.4).
 ///
 /// Numbers of type `u16` are indexes of other entries, from 1, where nothing else is said.
-#[derive(Debug, Drop)]
+#[derive(Debug, PartialEq, Eq, Hash, Drop)]
 pub enum Const {
     /// A text in modified UTF-8 of at most 65,535 bytes (CONSTANT_Utf8, tag 1, JVMS 4.4.7).
     Utf8(Text),

@@ -1,44 +1,55 @@
 //! A constant pool in memory.
 
-ghost use Rattle.std.specs.Prelude.{◌≡◌, ℕ, ◌+◌, ◌≤◌, ◌⊎◌, List, Some, Err, length, vec_len, slice_range, IfOk, IfErr, MatchResult};
-ghost use Rattle.std.specs.Option.{option_copied, option_map};
+ghost use Rattle.std.specs.Prelude.{◌≡◌, ℕ, ◌+◌, ◌^◌, ◌<◌, ◌≤◌, ◌⊎◌, ◌++◌, List, Some, Err, length, vec_len, slice_range, IfOk, IfErr, IfSome, IfNone, OnOk, OnErr, MatchResult};
+ghost use Rattle.std.specs.Option.{option_copied};
 ghost use Rattle.je_consts.specs.declared.fault.ConstFault.{ConstFault};
 ghost use Rattle.je_consts.specs.declared.place.Place.{Place};
-ghost use Rattle.je_consts.specs.Adding.{IsLawful, IsFull, Adds, Keeps};
+ghost use Rattle.je_consts.specs.Adding.{IsLawful, IsMissing, IsLeastIndex, IsFull, Adds, Keeps};
 ghost use Rattle.je_consts.specs.Faults.{FirstFault};
 ghost use Rattle.je_consts.specs.Layout.{pool_layout, IsPoolAt};
-ghost use Rattle.je_consts.specs.Pool.{const_at, text_at, class_at, name_and_type_at, member_at, Names, IsPool};
+ghost use Rattle.je_consts.specs.Pool.{places_of, const_at, Names, Fits, IsPool};
 
-use crate::adding::{add_to, without_copy};
-use crate::constant::{Const, Member};
+use crate::adding::{MOST, fits, grow, indexes_of};
+use crate::constant::Const;
 use crate::copying::copy_places;
 use crate::fault::{ConstFault, PoolStop};
-use crate::lookup::{class_at, const_at, member_at, name_and_type_at, text_at};
+use crate::index::{Index, find_in, find_text_in, shared, shared_index};
+use crate::lookup::{const_in, count_of};
 use crate::place::Place;
 use crate::reading::pool_of;
 use crate::writing::bytes_of;
 use je_base::{Memory, Text};
 use std::alloc::Global;
 use std::marker::Model;
+use std::rc::Rc;
 
 /// A constant pool (JVMS 4.4) whose indexes name what they have to.
 ///
 /// Contracts see it as the list of its places: what stands at index 1 first.
+///
+/// What was read is shared with each copy, and only what was added after that is a pool's own. So a copy costs what
+/// was added.
 #[derive(Debug, Drop)]
 pub struct Consts {
-    places: Vec<Place>,
+    base: Rc<Vec<Place>>,
+    base_index: Option<Rc<Index>>,
+    tail: Vec<Place>,
+    tail_index: Option<Index>,
 }
 
 impl Model for Consts {
-    ghost use Rattle.std.specs.Prelude.{List};
+    ghost use Rattle.std.specs.Prelude.{List, ◌++◌, IfSome};
     ghost use Rattle.je_consts.specs.declared.place.Place.{Place};
     ghost use Rattle.je_consts.specs.Pool.{IsPool};
+    ghost use Rattle.je_consts.specs.Indexed.{IsIndexOf};
 
     ghost Value = { List Place };
 
-    ghost view = { λ c. c.places.items };
+    ghost view = { λ c. c.base.value.items ++ c.tail.items };
 
-    ghost invariant = { λ c. IsPool c.places.items };
+    ghost invariant = { λ c. IsPool (c.base.value.items ++ c.tail.items)
+        × IfSome c.base_index (λ index. IsIndexOf c.base.value.items index.value)
+        × IfSome c.tail_index (IsIndexOf c.tail.items) };
 }
 
 impl Consts {
@@ -68,9 +79,23 @@ impl Consts {
             MatchResult result (λ _. ⊥) (λ e. (e ≡ ConstFault.Memory) ⊎ (e ≡ d)) }
     {
         match pool_of(alloc, bytes, at) {
-            Ok((places, end)) => Ok((Consts { places }, end)),
+            Ok((places, end)) => Ok((Consts::of_places(alloc, places)?, end)),
             Err(fault) => Err(fault),
         }
+    }
+
+    /// The pool of these places.
+    fn of_places(alloc: Global, places: Vec<Place>) -> Result<Consts, ConstFault>
+        requires { IsPool places.items }
+        ensures { MatchResult result (λ c. c ≡ places.items) (λ e. e ≡ ConstFault.Memory) }
+    {
+        let base = Rc::new(alloc, places)?;
+        Ok(Consts {
+            base,
+            base_index: None,
+            tail: Vec::new(alloc),
+            tail_index: None,
+        })
     }
 
     /// The entry at an index.
@@ -79,38 +104,7 @@ impl Consts {
     pub fn get(&self, index: u16) -> Option<&Const>
         ensures { option_copied result ≡ const_at self.now index }
     {
-        const_at(&self.places, index)
-    }
-
-    /// The text of the CONSTANT_Utf8 at an index (JVMS 4.4.7); `None` where no Utf8 stands there.
-    pub fn text(&self, index: u16) -> Option<&Text>
-        ensures { option_copied result ≡ text_at self.now index }
-    {
-        text_at(&self.places, index)
-    }
-
-    /// The name of the CONSTANT_Class at an index (JVMS 4.4.1); `None` where no Class stands there.
-    pub fn class_name(&self, index: u16) -> Option<&Text>
-        ensures { option_copied result ≡ class_at self.now index }
-    {
-        class_at(&self.places, index)
-    }
-
-    /// The name and the descriptor of the CONSTANT_NameAndType at an index (JVMS 4.4.6); `None` where no NameAndType
-    /// stands there.
-    pub fn name_and_type(&self, index: u16) -> Option<(&Text, &Text)>
-        ensures { option_map (λ m. (m.0.now, m.1.now)) result ≡ name_and_type_at self.now index }
-    {
-        name_and_type_at(&self.places, index)
-    }
-
-    /// The field or method at an index: which of the three structures it is, the name of its class, its name and its
-    /// descriptor (JVMS 4.4.2); `None` where none of them stands there.
-    pub fn member(&self, index: u16) -> Option<Member<'_>>
-        ensures { option_map (λ m. (m.kind, m.owner.now, m.name.now, m.descriptor.now)) result
-            ≡ member_at self.now index }
-    {
-        member_at(&self.places, index)
+        const_in(&self.base, &self.tail, index)
     }
 
     /// The count as the file has it: one more than the number of indexes, and at most 65,535.
@@ -118,7 +112,7 @@ impl Consts {
         ensures count { result ≡ length self.now + 1 }
         ensures pool { IsPool self.now }
     {
-        self.places.len() as u32 + 1
+        count_of(&self.base, &self.tail)
     }
 
     /// Adds an entry whose indexes name entries of the fitting tags, and answers its index.
@@ -138,7 +132,58 @@ impl Consts {
         ensures there { IfOk result (λ index. const_at self.new index ≡ Some c) }
         ensures keeps { Keeps self.old self.new }
     {
-        add_to(&mut self.places, c)
+        self.build_index();
+        if let Some(index) = self.find(&c) {
+            return Ok(index);
+        }
+        fits(&c);
+        let old_count = self.count();
+        let count = old_count + indexes_of(&c);
+        if count > MOST {
+            return Err(PoolStop::Full(count));
+        }
+        self.append(c)?;
+        Ok(old_count as u16)
+    }
+
+    /// Builds the index by which `add` finds entries, where it is not built, so that later copies share it.
+    ///
+    /// The first `add` does so too. The pool stays as it is. Where there is no memory for an index, `add` searches.
+    pub fn build_index(&mut self)
+        ensures { self.new ≡ self.old }
+    {
+        let alloc = *self.tail.allocator();
+        if self.base_index.is_none() {
+            self.base_index = shared_index(alloc, &self.base);
+        }
+        if self.tail_index.is_none() {
+            self.tail_index = Index::of(alloc, &self.tail);
+        }
+    }
+
+    /// The least index that holds this entry.
+    fn find(&self, entry: &Const) -> Option<u16>
+        ensures some { IfSome result (IsLeastIndex self.now entry.now) }
+        ensures none { IfNone result (IsMissing self.now entry.now) }
+    {
+        find_in(
+            &self.base,
+            shared(&self.base_index),
+            &self.tail,
+            self.tail_index.as_ref(),
+            entry,
+        )
+    }
+
+    /// Puts an entry at the end, where there is room.
+    fn append(&mut self, entry: Const) -> Result<(), Memory>
+        requires fits { Fits entry }
+        requires names { Names self.old entry }
+        requires room { length self.old + length (places_of entry) + 1 < 2 ^ 16 }
+        ensures ok { OnOk result (self.new ≡ self.old ++ places_of entry) }
+        ensures err { OnErr result (self.new ≡ self.old) }
+    {
+        grow(&mut self.tail, &mut self.tail_index, entry)
     }
 
     /// The index of a text that is there, or why it is not added where there is no memory for a copy of it.
@@ -147,7 +192,14 @@ impl Consts {
         ensures full { (n : ℕ) → IsFull self.now (Const.Utf8 text.now) n → result ≡ Err (PoolStop.Full n) }
         ensures there { IfOk result (λ index. const_at self.now index ≡ Some (Const.Utf8 text.now)) }
     {
-        without_copy(&self.places, text)
+        if let Some(index) = find_text_in(&self.base, &self.tail, text) {
+            return Ok(index);
+        }
+        let count = self.count() + 1;
+        if count > MOST {
+            return Err(PoolStop::Full(count));
+        }
+        Err(PoolStop::Memory)
     }
 
     /// The bytes of the pool: the count and the entries.
@@ -161,14 +213,24 @@ impl Consts {
         ensures again { IfOk result (λ v. (bytes : List ℕ) (at end : ℕ) →
             IsPoolAt bytes at end self.now → v.items ≡ slice_range bytes at end) }
     {
-        bytes_of(*self.places.allocator(), &self.places)
+        bytes_of(*self.tail.allocator(), &self.base, &self.tail)
     }
 
-    /// The same pool once more.
+    /// The same pool once more, with what was read shared by both.
     pub fn copy(&self) -> Result<Consts, Memory>
         ensures { IfOk result (λ c. c ≡ self.now) }
     {
-        let places = copy_places(*self.places.allocator(), &self.places)?;
-        Ok(Consts { places })
+        let base = self.base.clone()?;
+        let base_index = match &self.base_index {
+            Some(index) => Some(index.clone()?),
+            None => None,
+        };
+        let tail = copy_places(*self.tail.allocator(), &self.tail)?;
+        Ok(Consts {
+            base,
+            base_index,
+            tail,
+            tail_index: None,
+        })
     }
 }

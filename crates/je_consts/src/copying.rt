@@ -7,7 +7,7 @@ use crate::place::Place;
 use je_base::Memory;
 use std::alloc::Global;
 
-fn copy_const(entry: &Const) -> Result<Const, Memory>
+pub(crate) fn copy_const(entry: &Const) -> Result<Const, Memory>
     ensures { IfOk result (λ c. c ≡ entry.now) }
 {
     let copy = match entry {

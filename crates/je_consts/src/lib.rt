@@ -12,11 +12,12 @@ mod consts;
 mod copying;
 mod entries;
 mod fault;
+mod index;
 mod laws;
 mod lookup;
+mod named;
 mod place;
 mod reading;
-mod same;
 mod writing;
 
 pub use constant::{Const, Member, MemberTag};

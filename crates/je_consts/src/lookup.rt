@@ -1,12 +1,11 @@
-//! What the indexes of a constant pool name (JVMS 4.4).
+//! What stands at an index of the places of a constant pool (JVMS 4.4).
 
-ghost use Rattle.std.specs.Prelude.{◌≡◌, ◌↔◌, IsTrue, Some};
-ghost use Rattle.std.specs.Option.{option_copied, option_map};
-ghost use Rattle.je_consts.specs.Pool.{tag, const_at, text_at, class_at, tag_at, name_and_type_at, named_member, member_at};
+ghost use Rattle.std.specs.Prelude.{◌≡◌, ◌+◌, ◌^◌, ◌<◌, ◌++◌, ◌↔◌, length, IsTrue, Some};
+ghost use Rattle.std.specs.Option.{option_copied};
+ghost use Rattle.je_consts.specs.Pool.{tag, const_at, tag_at};
 
-use crate::constant::{Const, Member, MemberTag};
+use crate::constant::Const;
 use crate::place::Place;
-use je_base::Text;
 
 /// The tag of an entry (JVMS table 4.4-A).
 pub(crate) fn tag_of(entry: &Const) -> u8
@@ -63,68 +62,22 @@ pub(crate) fn has_tag(places: &[Place], index: u16, tag: u8) -> bool
     }
 }
 
-/// The text of the Utf8 at an index.
-pub(crate) fn text_at(places: &[Place], index: u16) -> Option<&Text>
-    ensures { option_copied result ≡ text_at places.now index }
+/// The entry at an index of these places one after the other.
+pub(crate) fn const_in<'a>(base: &'a [Place], tail: &'a [Place], index: u16) -> Option<&'a Const>
+    ensures { option_copied result ≡ const_at (base.now ++ tail.now) index }
 {
-    match const_at(places, index) {
-        Some(Const::Utf8(text)) => Some(text),
-        _ => None,
+    let at = index as usize;
+    if at <= base.len() {
+        const_at(base, index)
+    } else {
+        const_at(tail, (at - base.len()) as u16)
     }
 }
 
-/// The name of the Class at an index.
-pub(crate) fn class_at(places: &[Place], index: u16) -> Option<&Text>
-    ensures { option_copied result ≡ class_at places.now index }
+/// The count of a pool of these places one after the other.
+pub(crate) fn count_of(base: &[Place], tail: &[Place]) -> u32
+    requires { length (base.now ++ tail.now) + 1 < 2 ^ 16 }
+    ensures { result ≡ length (base.now ++ tail.now) + 1 }
 {
-    match const_at(places, index) {
-        Some(Const::Class(name)) => text_at(places, *name),
-        _ => None,
-    }
-}
-
-/// The name and the descriptor of the NameAndType at an index.
-pub(crate) fn name_and_type_at(places: &[Place], index: u16) -> Option<(&Text, &Text)>
-    ensures { option_map (λ m. (m.0.now, m.1.now)) result ≡ name_and_type_at places.now index }
-{
-    let Some(Const::NameAndType(name, descriptor)) = const_at(places, index) else {
-        return None;
-    };
-    let name = text_at(places, *name)?;
-    let descriptor = text_at(places, *descriptor)?;
-    Some((name, descriptor))
-}
-
-/// The member of this class, with this name and type.
-fn named_member(kind: MemberTag, places: &[Place], class: u16, member: u16) -> Option<Member<'_>>
-    ensures { option_map (λ m. (m.kind, m.owner.now, m.name.now, m.descriptor.now)) result
-        ≡ named_member kind places.now class member }
-{
-    let owner = class_at(places, class)?;
-    let (name, descriptor) = name_and_type_at(places, member)?;
-    Some(Member {
-        kind,
-        owner,
-        name,
-        descriptor,
-    })
-}
-
-/// The field or method at an index.
-pub(crate) fn member_at(places: &[Place], index: u16) -> Option<Member<'_>>
-    ensures { option_map (λ m. (m.kind, m.owner.now, m.name.now, m.descriptor.now)) result
-        ≡ member_at places.now index }
-{
-    match const_at(places, index) {
-        Some(Const::Field(class, member)) => {
-            named_member(MemberTag::Field, places, *class, *member)
-        }
-        Some(Const::Method(class, member)) => {
-            named_member(MemberTag::Method, places, *class, *member)
-        }
-        Some(Const::InterfaceMethod(class, member)) => {
-            named_member(MemberTag::InterfaceMethod, places, *class, *member)
-        }
-        _ => None,
-    }
+    (base.len() + tail.len()) as u32 + 1
 }

@@ -126,6 +126,21 @@ fn added(rt: HostRuntime) -> Result<(), Fail> {
 }
 
 #[test]
+fn added_to_a_copy(rt: HostRuntime) -> Result<(), Fail> {
+    let mut consts = class_pool(&rt)?;
+    consts.build_index();
+    let mut copy = consts.copy()?;
+    assert_eq!(rt; copy.add(Const::Integer(6)), Ok(11));
+    assert_eq!(rt; consts.count(), 11);
+    let mut expected = Vec::from_slice(rt.alloc(), b"\x00\x0c")?;
+    expected.extend_from_slice(&CLASS[10..])?;
+    expected.extend_from_slice(b"\x03\x00\x00\x00\x06")?;
+    let written = copy.write()?;
+    assert_eq!(rt; written.as_slice(), expected.as_slice());
+    Ok(())
+}
+
+#[test]
 fn added_with_texts(rt: HostRuntime) -> Result<(), Fail> {
     let mut consts = class_pool(&rt)?;
     let code = text(&rt, b"Code")?;
@@ -168,14 +183,17 @@ fn full(rt: HostRuntime) -> Result<(), Fail> {
     assert_eq!(rt; consts.add(Const::Integer(7)), Ok(1));
     let empty = text(&rt, b"")?;
     assert_eq!(rt; consts.add_text(&empty), Ok(2));
+    Ok(())
+}
+
+#[test]
+fn full_for_texts(rt: HostRuntime) -> Result<(), Fail> {
+    let mut consts = long_pool(&rt, 65_535)?;
+    let empty = text(&rt, b"")?;
     let name = text(&rt, b"f")?;
     assert_eq!(rt; consts.add_text(&name), Err(PoolStop::Full(65_536)));
-    assert_eq!(rt; consts.add_class(&name), Err(PoolStop::Full(65_536)));
     assert_eq!(rt; consts.add_class(&empty), Err(PoolStop::Full(65_536)));
-    assert_eq!(rt;
-        consts.add_member(MemberTag::Field, &empty, &name, &empty),
-        Err(PoolStop::Full(65_536))
-    );
+    assert_eq!(rt; consts.add_text(&empty), Ok(2));
     Ok(())
 }
 
@@ -183,16 +201,11 @@ fn full(rt: HostRuntime) -> Result<(), Fail> {
 fn full_in_a_row(rt: HostRuntime) -> Result<(), Fail> {
     let mut consts = long_pool(&rt, 65_532)?;
     let name = text(&rt, b"f")?;
-    let other = text(&rt, b"g")?;
     let empty = text(&rt, b"")?;
-    assert_eq!(rt; consts.add_class(&empty), Ok(65_532));
     assert_eq!(rt;
         consts.add_member(MemberTag::Method, &empty, &name, &empty),
         Err(PoolStop::Full(65_536))
     );
-    assert_eq!(rt; consts.add_text(&name), Ok(65_533));
-    assert_eq!(rt; consts.add_class(&empty), Ok(65_532));
-    assert_eq!(rt; consts.add_text(&other), Err(PoolStop::Full(65_536)));
     assert_eq!(rt; consts.count(), 65_535);
     Ok(())
 }

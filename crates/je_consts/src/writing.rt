@@ -7,7 +7,7 @@ ghost use Rattle.je_consts.specs.Layout.{const_layout, place_layout, entries_lay
 ghost use Rattle.je_consts.specs.Pool.{Fits, OfEntry};
 
 use crate::constant::Const;
-use crate::lookup::tag_of;
+use crate::lookup::{count_of, tag_of};
 use crate::place::Place;
 use je_base::{Memory, Text, put_u16, put_u32, put_u64};
 use std::alloc::Global;
@@ -65,16 +65,26 @@ fn put_place(out: &mut Vec<u8>, place: &Place) -> Result<(), Memory>
     }
 }
 
-/// The count and the entries.
-pub(crate) fn bytes_of(alloc: Global, places: &[Place]) -> Result<Vec<u8>, Memory>
-    requires count { length places.now + 1 < 2 ^ 16 }
-    requires each { AllByRecursion (OfEntry Fits) places.now }
-    ensures { IfOk result (λ v. v.items ≡ pool_layout places.now) }
+/// The entries, one after the other.
+fn put_places(out: &mut Vec<u8>, places: &[Place]) -> Result<(), Memory>
+    requires { AllByRecursion (OfEntry Fits) places.now }
+    ensures { OnOk result (out.new.items ≡ out.old.items ++ entries_layout places.now) }
+{
+    for place in places {
+        put_place(out, place)?;
+    }
+    Ok(())
+}
+
+/// The count and the entries of these places one after the other.
+pub(crate) fn bytes_of(alloc: Global, base: &[Place], tail: &[Place]) -> Result<Vec<u8>, Memory>
+    requires count { length (base.now ++ tail.now) + 1 < 2 ^ 16 }
+    requires each { AllByRecursion (OfEntry Fits) (base.now ++ tail.now) }
+    ensures { IfOk result (λ v. v.items ≡ pool_layout (base.now ++ tail.now)) }
 {
     let mut out = Vec::new(alloc);
-    put_u16(&mut out, places.len() as u16 + 1)?;
-    for place in places {
-        put_place(&mut out, place)?;
-    }
+    put_u16(&mut out, count_of(base, tail) as u16)?;
+    put_places(&mut out, base)?;
+    put_places(&mut out, tail)?;
     Ok(out)
 }
