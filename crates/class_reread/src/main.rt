@@ -1,7 +1,8 @@
 //! The check `class_reread`: reads class files and writes them again.
 //!
-//! Stands on je_base and je_class. For each path among its words it prints `same PATH`, where what is written of what was
-//! read are the file's bytes, or `fault PATH FAULT`, and last `N same, M faults`.
+//! Stands on je_base and je_class. For each path among its words it prints `same PATH`, where what
+//! is written of what was read are the file's bytes, or `fault PATH FAULT`, and last `N same, M
+//! faults`.
 #![tactic(auto)]
 
 mod reread;
@@ -11,8 +12,8 @@ use reread::{Stop, reread_all};
 use std::env;
 use std::process::ExitCode;
 
-/// Ends with status 0 where all files are the same, 1 where there are faults, 2 where the words are not read, 3 where
-/// standard output fails, and 4 where memory runs out.
+/// Ends with status 0 where all files are the same, 1 where there are faults, 2 where the words are
+/// not read, 3 where standard output fails, and 4 where memory runs out.
 fn main(rt: HostRuntime) -> ExitCode {
     let Ok(words) = env::args(&rt) else {
         return ExitCode::from(2);

@@ -47,7 +47,8 @@ fn reread(alloc: Global, bytes: &[u8]) -> Result<bool, ClassFault>
     }
 }
 
-/// What is wrong with the file at a path, in words; `None` where it is written again as it was read.
+/// What is wrong with the file at a path, in words; `None` where it is written again as it was
+/// read.
 fn fault_at<F: Files>(alloc: Global, path: &str, files: &mut F) -> Result<Option<String>, Memory> {
     let bytes = match files.read(path, MOST_BYTES + 1) {
         Ok(Some(bytes)) => bytes,

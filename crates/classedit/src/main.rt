@@ -1,7 +1,7 @@
 //! The command: edits class files by a script.
 //!
-//! Stands on je_base and je_session. It hands the real files, the standard streams and its words to `run`,
-//! and ends with the status that comes back.
+//! Stands on je_base and je_session. It hands the real files, the standard streams and its words to
+//! `run`, and ends with the status that comes back.
 #![tactic(auto)]
 
 use je_base::{FsFiles, Memory, StdSink};

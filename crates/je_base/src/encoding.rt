@@ -12,8 +12,8 @@ use std::alloc::Global;
 
 /// The string in modified UTF-8 (JVMS 4.4.7).
 ///
-/// NUL is the bytes C0 80, and a character above U+FFFF the three bytes of its high surrogate and the three
-/// of its low one.
+/// NUL is the bytes C0 80, and a character above U+FFFF the three bytes of its high surrogate and
+/// the three of its low one.
 pub fn encode_text(alloc: Global, s: &str) -> Result<Vec<u8>, Memory>
     ensures { IfOk result (λ bytes. bytes.items ≡ encoding (chars s.now)) }
 {

@@ -25,7 +25,8 @@ pub trait Files {
     /// How many failures there were.
     ghost faults: { Self → ℕ };
 
-    /// Reads the first `limit` bytes of the file at `path`, or answers `None` where there is no file.
+    /// Reads the first `limit` bytes of the file at `path`, or answers `None` where there is no
+    /// file.
     fn read(&mut self, path: &str, limit: usize) -> Result<Option<Vec<u8>>, FileStop>
         ensures told { IfOk result (Tells (contents self.old) path.now limit) }
         ensures within { IfOk result (λ found. IfSome found (λ bytes. vec_len bytes ≤ limit)) }

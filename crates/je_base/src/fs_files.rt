@@ -16,8 +16,8 @@ use std::marker::Model;
 use std::path::Path;
 use std::{fs, io, rt};
 
-/// The files of the real file system, over the part `R` of the runtime that reaches them. They tell no
-/// content and no paths.
+/// The files of the real file system, over the part `R` of the runtime that reaches them. They tell
+/// no content and no paths.
 #[derive(Drop)]
 pub struct FsFiles<R> {
     alloc: Global,

@@ -1,9 +1,9 @@
 //! The outside of the editor, and texts.
 //!
-//! Traits for files and for sinks of bytes, each with one implementation in memory and one over the real
-//! system, and class file texts. Stands on std alone. Offers above: what each read, write and put does
-//! where it is told, and that a failure is never answered without a fault on record.
-//! Also numbers and runs of a format of bytes: what is read at an offset is what stands there.
+//! Traits for files and for sinks of bytes, each with one implementation in memory and one over the
+//! real system, and class file texts. Stands on std alone. Offers above: what each read, write and
+//! put does where it is told, and that a failure is never answered without a fault on record. Also
+//! numbers and runs of a format of bytes: what is read at an offset is what stands there.
 #![tactic(auto)]
 
 mod bytes;

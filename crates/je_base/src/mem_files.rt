@@ -87,8 +87,8 @@ impl MemFiles {
         Ok(())
     }
 
-    /// Makes room for so many further writes, whose paths and contents have so many bytes in all. This is
-    /// then the room left.
+    /// Makes room for so many further writes, whose paths and contents have so many bytes in all.
+    /// This is then the room left.
     pub fn room(&mut self, writes: usize, bytes: usize) -> Result<(), Memory>
         ensures ok { OnOk result (self.new
             ≡ record self.old { spare_writes = writes; spare_bytes = bytes }) }

@@ -12,8 +12,8 @@ use crate::stop::{Failed, Memory};
 use std::alloc::Global;
 use std::marker::Model;
 
-/// A sink in memory. It tells its bytes, and fails exactly at the puts whose numbers were given to `fail_at`,
-/// and at a piece that is longer than the room left.
+/// A sink in memory. It tells its bytes, and fails exactly at the puts whose numbers were given to
+/// `fail_at`, and at a piece that is longer than the room left.
 #[derive(Debug, Drop)]
 pub struct MemSink {
     taken: Vec<u8>,

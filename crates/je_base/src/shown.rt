@@ -10,8 +10,8 @@ use crate::encoding::decode_text;
 use crate::stop::Memory;
 use std::alloc::Global;
 
-/// The text that shows the bytes: the string that they encode, where they encode one with no character
-/// below U+0020, and else each byte by itself.
+/// The text that shows the bytes: the string that they encode, where they encode one with no
+/// character below U+0020, and else each byte by itself.
 pub fn show(alloc: Global, bytes: &[u8]) -> Result<String, Memory>
     ensures { IfOk result (λ text. string_bytes text ≡ shown bytes.now) }
 {

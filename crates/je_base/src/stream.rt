@@ -14,8 +14,8 @@ const FIRST: usize = 8_192;
 /// How many bytes are asked for at once, at most. Before that, as many as were read so far.
 const PIECE: usize = 65_536;
 
-/// Reads the first `limit` bytes, or all where there are fewer. A source that gives nothing is at its
-/// end.
+/// Reads the first `limit` bytes, or all where there are fewer. A source that gives nothing is at
+/// its end.
 pub fn read_front<S: Read>(alloc: Global, from: &mut S, limit: usize) -> Result<Vec<u8>, FileStop>
     ensures within { IfOk result (λ bytes. vec_len bytes ≤ limit) }
     ensures front { IfOk result (λ bytes. IsFrontOf (S.remaining from.old) limit bytes.items) }
@@ -52,8 +52,8 @@ fn make_room(bytes: &mut Vec<u8>, filled: usize, wanted: usize) -> Result<(), Me
     Ok(())
 }
 
-/// One read into what stands behind the first `filled` bytes, of which there are some. Answers how many
-/// bytes it gave: none at the end of the source.
+/// One read into what stands behind the first `filled` bytes, of which there are some. Answers how
+/// many bytes it gave: none at the end of the source.
 fn read_behind<S: Read>(from: &mut S, bytes: &mut [u8], filled: usize) -> Result<usize, Failed>
     requires { filled < length bytes.old }
     ensures front { take filled bytes.new ≡ take filled bytes.old }

@@ -79,8 +79,8 @@ impl Text {
 
     /// The text as a message shows it.
     ///
-    /// Its string, where it has one with no character below U+0020, and else its bytes, those from 20 to 7E
-    /// as they are and each other one as `\x` and two hexadecimal digits.
+    /// Its string, where it has one with no character below U+0020, and else its bytes, those from
+    /// 20 to 7E as they are and each other one as `\x` and two hexadecimal digits.
     pub fn show(&self) -> Result<String, Memory>
         ensures { IfOk result (λ s. string_bytes s ≡ shown self.now) }
     {
@@ -184,8 +184,8 @@ fn are_singles(block: &[u8; 8]) -> bool
         .fold(true, |all, byte| all & (*byte >= 0x01) & (*byte <= 0x7f))
 }
 
-/// How many continuations are wanted after a byte, where so many were wanted before it, or `None` where
-/// that byte does not stand there.
+/// How many continuations are wanted after a byte, where so many were wanted before it, or `None`
+/// where that byte does not stand there.
 fn wanted_after(wanted: u8, byte: u8) -> Option<u8>
     ensures some { IfSome result (Follows wanted byte) }
     ensures none { IfNone result ((after : ℕ) → Follows wanted byte after → ⊥) }

@@ -17,7 +17,8 @@ use je_desc::{is_class_name, is_field, units};
 /// The access flag of a static method (JVMS table 4.6-A).
 const STATIC: u16 = 0x0008;
 
-/// The most units that a method's parameters have, with one for `this` unless it is static (JVMS 4.3.3).
+/// The most units that a method's parameters have, with one for `this` unless it is static (JVMS
+/// 4.3.3).
 const MOST_UNITS: u32 = 255;
 
 /// What an index of the constant pool has to name.

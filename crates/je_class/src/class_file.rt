@@ -160,7 +160,8 @@ impl ClassFile {
         )
     }
 
-    /// The place of the first method of this name and descriptor; `None` exactly where there is none.
+    /// The place of the first method of this name and descriptor; `None` exactly where there is
+    /// none.
     pub fn find_member(&self, name: &Text, descriptor: &Text) -> Option<usize>
         ensures found { IfSome result (IsMethodAt self.now name.now descriptor.now) }
         ensures none { IfNone result
@@ -193,7 +194,8 @@ impl ClassFile {
         summary_of(self)
     }
 
-    /// Puts other bytes, fewer than 4,294,967,296, into an attribute of a method. Both are named by their places.
+    /// Puts other bytes, fewer than 4,294,967,296, into an attribute of a method. Both are named by
+    /// their places.
     pub fn set_method_attribute(&mut self, method: usize, attribute: usize, bytes: Items<u8>)
         requires is_there { IsSomeAnd (slice_get self.old.methods method)
             (λ m. attribute < length m.attributes) }

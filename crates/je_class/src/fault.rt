@@ -10,7 +10,8 @@ use thiserror::Error;
 /// Class files longer than this are not read: bytes.
 pub const MOST_BYTES: usize = 16_777_216;
 
-/// Why bytes were not read as a class file: the first test that fails. Offsets are in bytes, from the start of the file.
+/// Why bytes were not read as a class file: the first test that fails. Offsets are in bytes, from
+/// the start of the file.
 #[derive(Clone, Copy, Debug, PartialEq, Eq, Error)]
 pub enum ClassFault {
     /// There are more than `MOST_BYTES` bytes.

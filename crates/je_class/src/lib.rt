@@ -1,7 +1,8 @@
 //! Class files of the versions 49 to 52, read to a record and written back (JVMS 4).
 //!
-//! Stands on je_base, je_consts and je_desc. Offers above: what is read is spelled by the bytes, what is spelled so is
-//! read, each fault is the first test that fails, and what is written is that spelling.
+//! Stands on je_base, je_consts and je_desc. Offers above: what is read is spelled by the bytes,
+//! what is spelled so is read, each fault is the first test that fails, and what is written is that
+//! spelling.
 #![tactic(auto)]
 
 mod check;

@@ -1,4 +1,5 @@
-//! The tables of a class file: its interfaces, fields, methods and attributes (JVMS 4.1 and 4.5 to 4.7).
+//! The tables of a class file: its interfaces, fields, methods and attributes (JVMS 4.1 and 4.5 to
+//! 4.7).
 
 ghost use Rattle.std.specs.Prelude.{◌≡◌};
 ghost use Rattle.je_class.specs.FileParts.{table_parts, interface_parts, attribute_parts};

@@ -123,14 +123,16 @@ fn parts_at(alloc: Global, bytes: &[u8]) -> Result<(Parts, usize), ClassFault>
 ///
 /// # Errors
 ///
-/// The first test that fails. `TooLong` is tested first and comes where there are more than `MOST_BYTES` bytes. Then the
-/// file is read in the order of its bytes: `Truncated` has the offset at which the number or the run of bytes begins that
-/// is cut off; `BadMagic` comes once the magic is read; `Version` once the major version is read, where it is outside 49
-/// to 52; `BadConst` as `Consts::read` says. `BadIndex` has the offset of an index that does not name what it has to:
-/// that of the class itself, of an interface, or of the super class where it is not 0, a class that is no array; that of a
-/// member's name or descriptor, a text. `BadDescriptor` has the offset of an index whose text is no field descriptor, or
-/// for a method no method descriptor of at most 255 units, with one for `this` unless it is static. `BadAttribute` has the
-/// offset of the index of an attribute's name that names no text. `Trailing` has the offset of the first byte behind the
+/// The first test that fails. `TooLong` is tested first and comes where there are more than
+/// `MOST_BYTES` bytes. Then the file is read in the order of its bytes: `Truncated` has the offset
+/// at which the number or the run of bytes begins that is cut off; `BadMagic` comes once the magic
+/// is read; `Version` once the major version is read, where it is outside 49 to 52; `BadConst` as
+/// `Consts::read` says. `BadIndex` has the offset of an index that does not name what it has to:
+/// that of the class itself, of an interface, or of the super class where it is not 0, a class that
+/// is no array; that of a member's name or descriptor, a text. `BadDescriptor` has the offset of an
+/// index whose text is no field descriptor, or for a method no method descriptor of at most 255
+/// units, with one for `this` unless it is static. `BadAttribute` has the offset of the index of an
+/// attribute's name that names no text. `Trailing` has the offset of the first byte behind the
 /// class file. `Memory` comes where memory runs out.
 pub fn read_class(alloc: Global, bytes: &[u8]) -> Result<ClassFile, ClassFault>
     // What is read is spelled by the bytes.

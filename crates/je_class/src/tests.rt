@@ -76,7 +76,8 @@ fn comes_back(rt: &HostRuntime, bytes: &[u8]) -> Result<bool, Fail> {
     Ok(written.as_slice() == bytes && again.as_slice() == bytes)
 }
 
-/// What class `A` is written as with a number as its last constant, and three bytes for the code of its method.
+/// What class `A` is written as with a number as its last constant, and three bytes for the code of
+/// its method.
 fn with_code(rt: &HostRuntime) -> Result<Vec<u8>, Fail> {
     let mut class = class_of(rt, &BYTES)?;
     let mut consts = class.consts().copy()?;

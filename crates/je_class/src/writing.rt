@@ -124,11 +124,13 @@ fn put_parts(out: &mut Vec<u8>, parts: &Parts) -> Result<(), Memory>
 ///
 /// `Memory` where memory runs out.
 pub fn write_class(alloc: Global, class: &ClassFile) -> Result<Vec<u8>, Memory>
-    // Read from these bytes, where they are at most `MOST_BYTES`, `read_class` gives this class file (`only`).
+    // Read from these bytes, where they are at most `MOST_BYTES`, `read_class` gives this class
+    // file (`only`).
     ensures bytes { IfOk result (λ v. ClassBytes v.items class.now) }
 
     // Where this class file was read, these are the bytes that it was read from.
-    ensures again { IfOk result (λ v. (bytes : List ℕ) → ClassBytes bytes class.now → v.items ≡ bytes) }
+    ensures again { IfOk result (λ v. (bytes : List ℕ) →
+        ClassBytes bytes class.now → v.items ≡ bytes) }
 {
     let mut out = Vec::new(alloc);
     put_parts(&mut out, class.parts())?;

@@ -14,7 +14,8 @@ use je_base::{Memory, Text};
 /// The greatest count of a pool.
 pub(crate) const MOST: u32 = 65_535;
 
-/// Reads each part of an entry and does nothing else: its numbers fit their types, and its text is a text.
+/// Reads each part of an entry and does nothing else: its numbers fit their types, and its text is
+/// a text.
 pub(crate) fn fits(entry: &Const)
     requires { IsLawful entry.now }
     ensures { Fits entry.now }

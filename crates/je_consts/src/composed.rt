@@ -28,7 +28,8 @@ impl Consts {
     pub fn add_text(&mut self, t: &Text) -> Result<u16, PoolStop>
         requires { length t.now ≤ 65535 }
         ensures adds { Adds (Const.Utf8 t.now) self.old result self.new }
-        ensures full { (n : ℕ) → IsFull self.old (Const.Utf8 t.now) n → result ≡ Err (PoolStop.Full n) }
+        ensures full { (n : ℕ) → IsFull self.old (Const.Utf8 t.now) n →
+            result ≡ Err (PoolStop.Full n) }
         ensures there { IfOk result (λ index. const_at self.new index ≡ Some (Const.Utf8 t.now)) }
         ensures keeps { Keeps self.old self.new }
     {
@@ -44,8 +45,10 @@ impl Consts {
     pub fn add_class(&mut self, name: &Text) -> Result<u16, PoolStop>
         requires { length name.now ≤ 65535 }
         ensures adds { AddsClass name.now self.old result self.new }
-        // Where an add of the row is refused by a full pool, so is this, unless memory ran out before.
-        ensures full { (n : ℕ) (places : List Place) → AddsClass name.now self.old (Err (PoolStop.Full n)) places →
+        // Where an add of the row is refused by a full pool, so is this, unless memory ran out
+        // before.
+        ensures full { (n : ℕ) (places : List Place) →
+            AddsClass name.now self.old (Err (PoolStop.Full n)) places →
             (result ≡ Err (PoolStop.Full n)) ⊎ (result ≡ Err PoolStop.Memory) }
         ensures there { IfOk result (λ index. class_at self.new index ≡ Some name.now) }
         ensures keeps { Keeps self.old self.new }
@@ -59,7 +62,8 @@ impl Consts {
         requires name { length name.now ≤ 65535 }
         requires descriptor { length descriptor.now ≤ 65535 }
         ensures adds { AddsNameAndType name.now descriptor.now self.old result self.new }
-        // Where an add of the row is refused by a full pool, so is this, unless memory ran out before.
+        // Where an add of the row is refused by a full pool, so is this, unless memory ran out
+        // before.
         ensures full { (n : ℕ) (places : List Place) → AddsNameAndType name.now descriptor.now self.old (Err (PoolStop.Full n)) places →
             (result ≡ Err (PoolStop.Full n)) ⊎ (result ≡ Err PoolStop.Memory) }
         ensures there { IfOk result (λ index.
@@ -73,7 +77,8 @@ impl Consts {
 
     /// Adds the class of a field or method, its name and descriptor, and then the member itself.
     ///
-    /// Each text has at most 65,535 bytes. Errors are those of `add`. After one, what was added before stands.
+    /// Each text has at most 65,535 bytes. Errors are those of `add`. After one, what was added
+    /// before stands.
     pub fn add_member(
         &mut self,
         kind: MemberTag,
@@ -85,8 +90,11 @@ impl Consts {
         requires name { length name.now ≤ 65535 }
         requires descriptor { length descriptor.now ≤ 65535 }
         ensures adds { AddsMember kind owner.now name.now descriptor.now self.old result self.new }
-        // Where an add of the row is refused by a full pool, so is this, unless memory ran out before.
-        ensures full { (n : ℕ) (places : List Place) → AddsMember kind owner.now name.now descriptor.now self.old (Err (PoolStop.Full n)) places →
+        // Where an add of the row is refused by a full pool, so is this, unless memory ran out
+        // before.
+        ensures full { (n : ℕ) (places : List Place) →
+            AddsMember kind owner.now name.now descriptor.now self.old
+            (Err (PoolStop.Full n)) places →
             (result ≡ Err (PoolStop.Full n)) ⊎ (result ≡ Err PoolStop.Memory) }
         ensures there { IfOk result (λ index.
             NamesMember kind self.new index owner.now name.now descriptor.now) }

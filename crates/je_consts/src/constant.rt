@@ -15,7 +15,8 @@ pub enum Const {
     Float(u32),
     /// A number of type long, which takes two indexes (CONSTANT_Long, tag 5, JVMS 4.4.5).
     Long(i64),
-    /// The bits of a number of type double, which takes two indexes (CONSTANT_Double, tag 6, JVMS 4.4.5).
+    /// The bits of a number of type double, which takes two indexes (CONSTANT_Double, tag 6, JVMS
+    /// 4.4.5).
     Double(u64),
     /// A class: its name (CONSTANT_Class, tag 7, JVMS 4.4.1).
     Class(u16),
@@ -23,20 +24,21 @@ pub enum Const {
     Str(u16),
     /// A field: its class, and its name and type (CONSTANT_Fieldref, tag 9, JVMS 4.4.2).
     Field(u16, u16),
-    /// A method of a class: its class, and its name and type (CONSTANT_Methodref, tag 10, JVMS 4.4.2).
+    /// A method of a class: its class, and its name and type (CONSTANT_Methodref, tag 10, JVMS
+    /// 4.4.2).
     Method(u16, u16),
-    /// A method of an interface: the interface, and the name and type (CONSTANT_InterfaceMethodref, tag 11,
-    /// JVMS 4.4.2).
+    /// A method of an interface: the interface, and the name and type (CONSTANT_InterfaceMethodref,
+    /// tag 11, JVMS 4.4.2).
     InterfaceMethod(u16, u16),
     /// A name and a descriptor (CONSTANT_NameAndType, tag 12, JVMS 4.4.6).
     NameAndType(u16, u16),
-    /// A method handle: its kind from 1 to 9, and the field or method (CONSTANT_MethodHandle, tag 15,
-    /// JVMS 4.4.8).
+    /// A method handle: its kind from 1 to 9, and the field or method (CONSTANT_MethodHandle, tag
+    /// 15, JVMS 4.4.8).
     MethodHandle(u8, u16),
     /// A method type: its descriptor (CONSTANT_MethodType, tag 16, JVMS 4.4.9).
     MethodType(u16),
-    /// A dynamic call: the number of its bootstrap method, which is no index of the pool, and its name and type
-    /// (CONSTANT_InvokeDynamic, tag 18, JVMS 4.4.10).
+    /// A dynamic call: the number of its bootstrap method, which is no index of the pool, and its
+    /// name and type (CONSTANT_InvokeDynamic, tag 18, JVMS 4.4.10).
     InvokeDynamic(u16, u16),
 }
 

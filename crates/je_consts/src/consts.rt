@@ -27,8 +27,8 @@ use std::rc::Rc;
 ///
 /// Contracts see it as the list of its places: what stands at index 1 first.
 ///
-/// What was read is shared with each copy, and only what was added after that is a pool's own. So a copy costs what
-/// was added.
+/// What was read is shared with each copy, and only what was added after that is a pool's own. So a
+/// copy costs what was added.
 #[derive(Debug, Drop)]
 pub struct Consts {
     base: Rc<Vec<Place>>,
@@ -57,12 +57,13 @@ impl Consts {
     ///
     /// # Errors
     ///
-    /// The first test that fails, of those at the count, at each entry in order, and at last of what the indexes
-    /// name. `Truncated` has the offset at which the number begins that is cut off, or the run of a Utf8's bytes.
-    /// `BadConst` has the index of the entry, or 0 where the count is 0. It comes for an unknown tag, for a Utf8
-    /// that is no modified UTF-8, for a handle of a kind outside 1 to 9, for a Long or Double at the last index,
-    /// once its number is read, and for an entry that names one of a tag that does not fit. `Memory` comes where
-    /// memory runs out.
+    /// The first test that fails, of those at the count, at each entry in order, and at last of
+    /// what the indexes name. `Truncated` has the offset at which the number begins that is cut
+    /// off, or the run of a Utf8's bytes. `BadConst` has the index of the entry, or 0 where the
+    /// count is 0. It comes for an unknown tag, for a Utf8 that is no modified UTF-8, for a handle
+    /// of a kind outside 1 to 9, for a Long or Double at the last index, once its number is read,
+    /// and for an entry that names one of a tag that does not fit. `Memory` comes where memory runs
+    /// out.
     pub fn read(alloc: Global, bytes: &[u8], at: usize) -> Result<(Consts, usize), ConstFault>
         requires { at ≤ length bytes.now }
 
@@ -100,7 +101,8 @@ impl Consts {
 
     /// The entry at an index.
     ///
-    /// `None` exactly for 0, for an index not below the count, and for the second index of a Long or Double.
+    /// `None` exactly for 0, for an index not below the count, and for the second index of a Long
+    /// or Double.
     pub fn get(&self, index: u16) -> Option<&Const>
         ensures { option_copied result ≡ const_at self.now index }
     {
@@ -117,13 +119,14 @@ impl Consts {
 
     /// Adds an entry whose indexes name entries of the fitting tags, and answers its index.
     ///
-    /// It is the least index with this content where there is one, and then nothing changes. Else the entry goes to
-    /// the end, where a Long or Double takes two indexes. No index that is there changes.
+    /// It is the least index with this content where there is one, and then nothing changes. Else
+    /// the entry goes to the end, where a Long or Double takes two indexes. No index that is there
+    /// changes.
     ///
     /// # Errors
     ///
-    /// `Full` with the new count, where the entry is not there and that count would pass 65,535, and `Memory`. A
-    /// refusal changes nothing.
+    /// `Full` with the new count, where the entry is not there and that count would pass 65,535,
+    /// and `Memory`. A refusal changes nothing.
     pub fn add(&mut self, c: Const) -> Result<u16, PoolStop>
         requires lawful { IsLawful c }
         requires names { Names self.old c }
@@ -146,9 +149,11 @@ impl Consts {
         Ok(old_count as u16)
     }
 
-    /// Builds the index by which `add` finds entries, where it is not built, so that later copies share it.
+    /// Builds the index by which `add` finds entries, where it is not built, so that later copies
+    /// share it.
     ///
-    /// The first `add` does so too. The pool stays as it is. Where there is no memory for an index, `add` searches.
+    /// The first `add` does so too. The pool stays as it is. Where there is no memory for an index,
+    /// `add` searches.
     pub fn build_index(&mut self)
         ensures { self.new ≡ self.old }
     {
@@ -186,7 +191,8 @@ impl Consts {
         grow(&mut self.tail, &mut self.tail_index, entry)
     }
 
-    /// The index of a text that is there, or why it is not added where there is no memory for a copy of it.
+    /// The index of a text that is there, or why it is not added where there is no memory for a
+    /// copy of it.
     pub(crate) fn text_without_copy(&self, text: &Text) -> Result<u16, PoolStop>
         ensures adds { Adds (Const.Utf8 text.now) self.now result self.now }
         ensures full { (n : ℕ) → IsFull self.now (Const.Utf8 text.now) n → result ≡ Err (PoolStop.Full n) }

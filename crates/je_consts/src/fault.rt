@@ -14,7 +14,8 @@ pub enum ConstFault {
     /// The bytes end within the number, or the run of a Utf8's bytes, that begins at this offset.
     #[error("the constant pool is cut off")]
     Truncated(usize),
-    /// The entry of this index is none, or names an entry that does not fit; 0 where the count is 0.
+    /// The entry of this index is none, or names an entry that does not fit; 0 where the count is
+    /// 0.
     #[error("a constant is malformed")]
     BadConst(u16),
     /// There was not enough memory.

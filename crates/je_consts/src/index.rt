@@ -74,7 +74,8 @@ impl Index {
         Index::noted(index, places, 0)
     }
 
-    /// The index of these places, of which the first so many are in it, where there is memory for it.
+    /// The index of these places, of which the first so many are in it, where there is memory for
+    /// it.
     pub(crate) fn noted(mut self, places: &[Place], from: usize) -> Option<Index>
         requires from { from ≤ length places.now }
         requires count { length places.now + 1 < 2 ^ 16 }

@@ -6,7 +6,8 @@ ghost use Rattle.je_consts.specs.declared.place.Place.{Place};
 ghost use Rattle.je_consts.specs.Faults.{FirstFault};
 ghost use Rattle.je_consts.specs.Layout.{IsPoolAt};
 
-/// From an offset on, bytes are one constant pool or have one first fault, and there is one of them.
+/// From an offset on, bytes are one constant pool or have one first fault, and there is one of
+/// them.
 pub fn one_pool()
     ensures same { (bytes : List ℕ) (at end other : ℕ) (places others : List Place) →
         IsPoolAt bytes at end places → IsPoolAt bytes at other others

@@ -1,7 +1,8 @@
 //! The constant pool of a class file, with all of its tags (JVMS 4.4).
 //!
-//! Stands on je_base. Offers above: what is read is spelled by the bytes and the other way round, each fault is the
-//! first test that fails, and an index keeps its content while constants are added.
+//! Stands on je_base. Offers above: what is read is spelled by the bytes and the other way round,
+//! each fault is the first test that fails, and an index keeps its content while constants are
+//! added.
 #![tactic(auto)]
 
 mod adding;

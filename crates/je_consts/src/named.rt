@@ -29,8 +29,8 @@ impl Consts {
         }
     }
 
-    /// The name and the descriptor of the CONSTANT_NameAndType at an index (JVMS 4.4.6); `None` where no NameAndType
-    /// stands there.
+    /// The name and the descriptor of the CONSTANT_NameAndType at an index (JVMS 4.4.6); `None`
+    /// where no NameAndType stands there.
     pub fn name_and_type(&self, index: u16) -> Option<(&Text, &Text)>
         ensures { option_map (λ m. (m.0.now, m.1.now)) result ≡ name_and_type_at self.now index }
     {
@@ -42,8 +42,8 @@ impl Consts {
         Some((name, descriptor))
     }
 
-    /// The field or method at an index: which of the three structures it is, the name of its class, its name and its
-    /// descriptor (JVMS 4.4.2); `None` where none of them stands there.
+    /// The field or method at an index: which of the three structures it is, the name of its class,
+    /// its name and its descriptor (JVMS 4.4.2); `None` where none of them stands there.
     pub fn member(&self, index: u16) -> Option<Member<'_>>
         ensures { option_map (λ m. (m.kind, m.owner.now, m.name.now, m.descriptor.now)) result
             ≡ member_at self.now index }

@@ -1,7 +1,7 @@
 //! Descriptors of fields and methods, and the types that they spell.
 //!
-//! Stands on je_base. Offers above: which bytes are descriptors, and how many units the parameters of a
-//! method have.
+//! Stands on je_base. Offers above: which bytes are descriptors, and how many units the parameters
+//! of a method have.
 #![tactic(auto)]
 
 mod field;

@@ -13,8 +13,8 @@ const MOST_UNITS: u32 = 255;
 /// The return descriptor of a method that answers nothing (JVMS 4.3.3).
 const VOID: &[u8] = b"V";
 
-/// The units of the parameters, where the bytes are a method descriptor (JVMS 4.3.3): two for a long or a
-/// double, one for every other. `None` where they are no method descriptor.
+/// The units of the parameters, where the bytes are a method descriptor (JVMS 4.3.3): two for a
+/// long or a double, one for every other. `None` where they are no method descriptor.
 pub fn units(b: &[u8]) -> Option<u32>
     ensures some { IfSome result (MethodDescriptor b.now) }
     ensures none { IfNone result ((n : ℕ) → MethodDescriptor b.now n → ⊥) }

@@ -65,8 +65,9 @@ fn are_empty_tables(bytes: &[u8]) -> bool
 
 /// Reads the content of a Code attribute without handlers and attributes (JVMS 4.7.3).
 ///
-/// `NotYet`: it has a handler, an attribute, an instruction that is not read so far, no code or more than
-/// 65,535 bytes of it, or ends too early or too late. `Memory`: there was not enough memory.
+/// `NotYet`: it has a handler, an attribute, an instruction that is not read so far, no code or
+/// more than 65,535 bytes of it, or ends too early or too late. `Memory`: there was not enough
+/// memory.
 pub fn read_code(alloc: Global, info: &[u8]) -> Result<MethodCode, CodeStop>
     // What is read is spelled so.
     ensures found { IfOk result (λ c. CodeBytes info.now (plain_code c)) }

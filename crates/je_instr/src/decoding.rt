@@ -27,8 +27,8 @@ fn instr_at(bytes: &[u8]) -> Option<(Instr, &[u8])>
 
 /// The instructions that the code spells (JVMS 6.5).
 ///
-/// `NotYet`: where an instruction should begin stands none that is read so far, or the last one is cut.
-/// `Memory`: there was not enough memory.
+/// `NotYet`: where an instruction should begin stands none that is read so far, or the last one is
+/// cut. `Memory`: there was not enough memory.
 pub fn decode(alloc: Global, code: &[u8]) -> Result<Vec<Instr>, CodeStop>
     // What is decoded is spelled so.
     ensures found { IfOk result (λ v. code.now ≡ code_bytes v.items) }

@@ -39,10 +39,13 @@ pub fn longer_bounds()
         → iterate_all step n s ≡ with_more (n - m) (iterate_all step m s) }
 {}
 
-/// Bytes are one program at most: one code, of one list of instructions, with one list of operations.
+/// Bytes are one program at most: one code, of one list of instructions, with one list of
+/// operations.
 pub fn one_program()
-    ensures code { (info : List ℕ) (c d : Code) → CodeBytes info c → CodeBytes info d → c.code ≡ d.code }
-    ensures instrs { (is js : List Instr) → AllByRecursion FitsInstr is → AllByRecursion FitsInstr js
+    ensures code { (info : List ℕ) (c d : Code) →
+        CodeBytes info c → CodeBytes info d → c.code ≡ d.code }
+    ensures instrs { (is js : List Instr) →
+        AllByRecursion FitsInstr is → AllByRecursion FitsInstr js
         → code_bytes is ≡ code_bytes js → is ≡ js }
     ensures operations { (consts : List Place) (is : List Instr) (a b : List Operation) →
         AllZip (Resolves consts) is a → AllZip (Resolves consts) is b → a ≡ b }
@@ -61,13 +64,17 @@ pub fn constants_mean()
     ensures string { (consts : List Place) (i t : ℕ) (text : List ℕ) →
         const_at consts i ≡ Some (entry.Str t) → text_at consts t ≡ Some text
         → content_at consts i ≡ Some (Str text) }
-    ensures member { (kind : consts.MemberTag) (consts : List Place) (i : ℕ) (owner name descriptor : List ℕ) →
+    ensures member { (kind : consts.MemberTag) (consts : List Place) (i : ℕ)
+        (owner name descriptor : List ℕ) →
         NamesMember kind consts i owner name descriptor
         → content_at consts i ≡ Some (Member (sort_of kind) owner name descriptor) }
     ensures pair { (consts : List Place) (i : ℕ) (name descriptor : List ℕ) →
-        NamesAndTypes consts i name descriptor → content_at consts i ≡ Some (NameAndType name descriptor) }
-    ensures handle { (kind : consts.MemberTag) (consts : List Place) (i k m : ℕ) (owner name descriptor : List ℕ) →
-        const_at consts i ≡ Some (entry.MethodHandle k m) → NamesMember kind consts m owner name descriptor
+        NamesAndTypes consts i name descriptor
+        → content_at consts i ≡ Some (NameAndType name descriptor) }
+    ensures handle { (kind : consts.MemberTag) (consts : List Place) (i k m : ℕ)
+        (owner name descriptor : List ℕ) →
+        const_at consts i ≡ Some (entry.MethodHandle k m)
+        → NamesMember kind consts m owner name descriptor
         → content_at consts i ≡ Some (MethodHandle k (sort_of kind) owner name descriptor) }
     ensures method_type { (consts : List Place) (i d : ℕ) (descriptor : List ℕ) →
         const_at consts i ≡ Some (entry.MethodType d) → text_at consts d ≡ Some descriptor

@@ -1,7 +1,8 @@
 //! Instructions, and what they mean.
 //!
-//! Stands on je_consts and je_desc. Decodes and encodes the code of a method, and defines the machine that runs it.
-//! Offers above: bytes and instructions agree, and a run with a longer bound shows what a shorter one shows.
+//! Stands on je_consts and je_desc. Decodes and encodes the code of a method, and defines the
+//! machine that runs it. Offers above: bytes and instructions agree, and a run with a longer bound
+//! shows what a shorter one shows.
 #![tactic(auto)]
 
 mod callee;

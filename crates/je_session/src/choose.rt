@@ -32,7 +32,8 @@ fn fragment_for(rules: &[Rule], class_name: &Text, member: &Text) -> Option<Frag
     Some(rule.fragment)
 }
 
-/// The fragment that the rules choose for an instruction, and `NotYet` where it calls what may not be called.
+/// The fragment that the rules choose for an instruction, and `NotYet` where it calls what may not
+/// be called.
 fn choose_one(consts: &Consts, instr: Instr, rules: &[Rule]) -> Result<Option<Fragment>, EditStop>
     ensures chosen { IfOk result (λ choice. (operation : Operation)
         × Resolves consts.now instr operation × (choice ≡ chosen_fragment rules.now operation)) }
@@ -48,7 +49,8 @@ fn choose_one(consts: &Consts, instr: Instr, rules: &[Rule]) -> Result<Option<Fr
     }
 }
 
-/// The fragment that the rules choose for each instruction. `NotYet`: one calls what may not be called.
+/// The fragment that the rules choose for each instruction. `NotYet`: one calls what may not be
+/// called.
 pub fn choose(
     alloc: Global,
     consts: &Consts,

@@ -17,7 +17,8 @@ use std::alloc::Global;
 
 /// Edits the method of the plan, and tells how many expressions its rules chose.
 ///
-/// `NotYet`: the method is not there, or not of the form that can be edited. After an error the class is as it was.
+/// `NotYet`: the method is not there, or not of the form that can be edited. After an error the
+/// class is as it was.
 pub fn edit_method(
     alloc: Global,
     class: &mut ClassFile,

@@ -46,8 +46,8 @@ fn is_code(consts: &Consts, attribute: &Attribute) -> bool
     }
 }
 
-/// The code of a static method with one attribute, a Code without handlers and attributes. `NotYet`: the method is not
-/// of this form.
+/// The code of a static method with one attribute, a Code without handlers and attributes.
+/// `NotYet`: the method is not of this form.
 fn code_of(alloc: Global, consts: &Consts, method: &Member) -> Result<MethodCode, EditStop>
     ensures found { IfOk result (IsCodeOf consts.now method.now) }
     ensures only { (code : MethodCode) → IsCodeOf consts.now method.now code
@@ -85,8 +85,8 @@ fn place_of(alloc: Global, class: &ClassFile, name: &Text) -> Result<Option<usiz
     Ok(class.find_member(name, &descriptor))
 }
 
-/// The method of a plan, and what the plan chooses in it. `NotYet`: the method is not there, or not of the form that
-/// can be edited.
+/// The method of a plan, and what the plan chooses in it. `NotYet`: the method is not there, or not
+/// of the form that can be edited.
 pub fn find_editable(
     alloc: Global,
     class: &ClassFile,

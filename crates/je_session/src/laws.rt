@@ -31,8 +31,9 @@ pub fn one_program()
     je_instr::one_program();
 }
 
-/// A method's program stays what it is where the constant pool grows, whatever else of the class changes. So what one plan
-/// of a class leaves of the other methods is what the next plan speaks of.
+/// A method's program stays what it is where the constant pool grows, whatever else of the class
+/// changes. So what one plan of a class leaves of the other methods is what the next plan speaks
+/// of.
 pub fn programs_stay()
     ensures { (c d : Class) (at : ℕ) (m : Member) (program : Program) →
         IsSound c → Keeps c.consts d.consts → slice_get c.methods at ≡ Some m →

@@ -30,7 +30,7 @@ use std::alloc::Global;
 /// |---|---|---|---|
 /// | `Done` | all is done | `edited CLASS.METHOD()V matched N`, `wrote PATH` | nothing |
 /// | `Usage` | the words are no command line | nothing | the usage line |
-/// | `Refused` | script or class are missing, or not of a form that is edited | nothing | the refusal |
+/// | `Refused` | script or class is missing, or not of the form | nothing | the refusal |
 /// | `Outside` | a read, a write or a put failed | what was put before | `outside fault: ..` |
 /// | `Memory` | there was not enough memory | nothing | `out of memory` |
 ///
