@@ -3,3 +3,8 @@ pub mod ViewLemmas
 pub mod ChainLemmas
 pub mod OutsideLemmas
 pub mod StepLemmas
+pub mod MovedLemmas
+pub mod HandlerLemmas
+pub mod ConditionLemmas
+pub mod SlotLemmas
+pub mod UnderLemmas

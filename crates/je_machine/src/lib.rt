@@ -5,9 +5,13 @@
 #![tactic(auto)]
 
 mod actions;
+mod handlers;
 mod machine;
+mod operations;
 mod runs;
 
 pub use actions::actions_do;
+pub use handlers::ways_of_throws;
 pub use machine::machine_runs;
+pub use operations::{inverse_conditions, own_slots, relocation, under_operands};
 pub use runs::{agreement, longer_bounds, stretches, views_begin_views};
