@@ -8,3 +8,4 @@ pub mod HandlerLemmas
 pub mod ConditionLemmas
 pub mod SlotLemmas
 pub mod UnderLemmas
+pub mod FieldLemmas

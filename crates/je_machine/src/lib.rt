@@ -5,12 +5,14 @@
 #![tactic(auto)]
 
 mod actions;
+mod fields;
 mod handlers;
 mod machine;
 mod operations;
 mod runs;
 
 pub use actions::actions_do;
+pub use fields::{object_fields, static_fields};
 pub use handlers::ways_of_throws;
 pub use machine::machine_runs;
 pub use operations::{inverse_conditions, own_slots, relocation, under_operands};
