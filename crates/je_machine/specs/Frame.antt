@@ -38,13 +38,13 @@ under (suc count) stack = under count (below stack)
 
 -- the values in so many places from the top, the top first; and what is under them
 abbrev pub top_places : ℕ → List Value → List Value
-top_places places [] = []
-top_places zero (value ∷ stack) = []
+top_places zero stack = []
+top_places (suc places) [] = []
 top_places (suc places) (value ∷ stack) = value ∷ top_places (suc places - places_of value) stack
 
 abbrev pub under_places : ℕ → List Value → List Value
-under_places places [] = []
-under_places zero (value ∷ stack) = value ∷ stack
+under_places zero stack = stack
+under_places (suc places) [] = []
 under_places (suc places) (value ∷ stack) = under_places (suc places - places_of value) stack
 
 abbrev pub copied : ℕ → ℕ → List Value → List Value

@@ -16,3 +16,4 @@ pub mod Acts
 pub mod Moved
 pub mod Slots
 pub mod Under
+pub mod Sample
