@@ -9,3 +9,5 @@ pub mod ConditionLemmas
 pub mod SlotLemmas
 pub mod UnderLemmas
 pub mod FieldLemmas
+pub mod SimulationLemmas
+pub mod IndexMapLemmas

@@ -17,3 +17,5 @@ pub mod Moved
 pub mod Slots
 pub mod Under
 pub mod Sample
+pub mod Simulation
+pub mod IndexMap

@@ -19,9 +19,9 @@ pub use actions::actions_do;
 pub use arithmetic::{ints_are_computed, ints_are_shifted, longs_are_computed};
 pub use fields::{object_fields, static_fields};
 pub use handlers::ways_of_throws;
-pub use machine::machine_runs;
+pub use machine::{machine_runs, moved_programs};
 pub use operations::{inverse_conditions, own_slots, relocation, under_operands};
-pub use runs::{agreement, longer_bounds, stretches, views_begin_views};
+pub use runs::{agreement, longer_bounds, simulation, stretches, views_begin_views};
 pub use shown::{
     classes_are_known, conditions_are_met, runs_are_shown, values_are_admitted, values_are_copied,
 };

@@ -2,6 +2,7 @@
 
 ghost use Rattle.std.specs.Prelude.{◌≡◌, ℕ, ◌+◌, ◌-◌, ◌≤◌, IsSome};
 ghost use Rattle.je_machine.specs.Step.{Step, Outcome, Takes, Chain, ComesTo, iterate_all};
+ghost use Rattle.je_machine.specs.Simulation.{Pairs, Simulates};
 ghost use Rattle.je_machine.specs.View.{View, IsViewPrefix, IsSteady, Follows, AgreeingRuns, view_of, with_more};
 
 /// Beginning a view is a partial order.
@@ -25,6 +26,15 @@ pub fn agreement<S>()
     ensures { (step : Step S) → IsSteady step → (s : S) (old : ℕ → Outcome) (lag : ℕ)
         → ((n : ℕ) → Follows old (λ m. iterate_all step m s) lag n)
         → AgreeingRuns old (λ m. iterate_all step m s) }
+{}
+
+/// A run that follows each step of another, and falls behind by a bounded lag alone, shows the same and
+/// no more. Which states are paired is any type `I` with two maps to states.
+pub fn simulation<I, S, U>()
+    ensures follows { (pairs : Pairs I S U) (old : Step S) (new : Step U) → Simulates pairs old new → (i : I) (n : ℕ) →
+        Follows (λ k. iterate_all old k (pairs.old i)) (λ m. iterate_all new m (pairs.new i)) (pairs.lag i) n }
+    ensures agrees { (pairs : Pairs I S U) (old : Step S) (new : Step U) → Simulates pairs old new → IsSteady new → (i : I) →
+        AgreeingRuns (λ k. iterate_all old k (pairs.old i)) (λ m. iterate_all new m (pairs.new i)) }
 {}
 
 /// Stretches of a run: one step, several in a row, and what they come to.
