@@ -1,6 +1,6 @@
 -- Stretches of a run, put together.
 use Rattle.std.proofs.Common.{◌≡◌, ℕ, zero, suc, ◌+◌, ◌≤◌, refl, sym, ap, subst, ◌∙◌, arith}
-use Rattle.je_machine.specs.Step.{Step, Takes, Chain, ComesTo, Outcome, Goes, advance, iterate, iterate_all}
+use Rattle.je_machine.specs.Step.{Step, Takes, Chain, ComesTo, advance, iterate, iterate_all}
 use Rattle.je_machine.specs.View.{view_of}
 
 pub comes_refl : {S : Type 0} (step : Step S) (s : S) → ComesTo step s s

@@ -1,8 +1,8 @@
 -- The inverse of a condition.
 use Rattle.std.proofs.Common.{◌≡◌, List, Bool, true, false, refl, sym, ap}
-use Rattle.std.specs.Prelude.{not, ℤ, pos, int_lt}
+use Rattle.std.specs.Prelude.{not, ℤ, int_lt}
 use Rattle.std.specs.Ordering.{int_eq}
-use Rattle.je_machine.specs.Value.{Value, number_of, value_at, is_null, is_same_reference}
+use Rattle.je_machine.specs.Value.{Value}
 use Rattle.je_machine.specs.Condition.{Comparison, Equals, Differs, IsLess, IsNotLess, IsGreater, IsNotGreater, Condition, Zero, Ints, Same, IsNull, is_so, is_wanted, is_met, opposite, inverse}
 
 twice : (b : Bool) → b ≡ not (not b)

@@ -7,12 +7,12 @@ use Rattle.je_machine.specs.Value.{Value, Int, Long, Flt, Dbl, Null, Obj, Const,
 use Rattle.je_machine.specs.Heap.{Heap}
 use Rattle.je_machine.specs.Classes.{Classes}
 use Rattle.je_machine.specs.Outside.{Outside, throw_admitted}
-use Rattle.je_machine.specs.Operation.{Basic, Nop, Push, Drop, Copy, Swap, Act, Throw, Operation, Do, Load, Store, Increment, Branch, Goto, Switch, Return, Handler, Program}
+use Rattle.je_machine.specs.Operation.{Nop, Push, Drop, Copy, Swap, Act, Throw, Operation, Do, Load, Store, Increment, Branch, Goto, Switch, Return, Handler, Program}
 use Rattle.je_machine.specs.Frame.{Frame, Stacked, Stands, Breaks, Stalls, stacked, perform_basic, Flow, Falls, Jumps, Leaves, Raises, Halts, flow_of, branch, chosen_case, perform, top, below}
-use Rattle.je_machine.specs.Step.{Progress, Goes, Stops, Outcome, advance, iterate, iterate_all}
+use Rattle.je_machine.specs.Step.{Progress, Goes, Stops, advance, iterate, iterate_all}
 use Rattle.je_machine.specs.Machine.{State, Outer, catcher, covers, catches, enter_handler, follow, perform_at, take_step, machine_step}
 use Rattle.je_machine.specs.Moved.{retargeted, moved_flow}
-use Rattle.je_machine.specs.IndexMap.{Way, ways_at, moved_way, may_fall, TargetsIn, MovesPlace, MovesProgram, moved_state}
+use Rattle.je_machine.specs.IndexMap.{Way, ways_at, moved_way, may_fall, TargetsIn, MovesProgram, moved_state}
 use Rattle.je_machine.proofs.HandlerLemmas.{catcher_covers}
 use Rattle.je_machine.proofs.MovedLemmas.{perform_retargeted}
 

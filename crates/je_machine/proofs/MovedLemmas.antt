@@ -1,14 +1,13 @@
 -- Performing an operation with its targets moved is performing it and moving the flow.
-use Rattle.std.proofs.Common.{◌≡◌, ℕ, List, [], ◌∷◌, Option, Some, None, Bool, true, false, refl, sym, ap, ◌∙◌}
-use Rattle.std.specs.Prelude.{ℤ, map, cond, option_map, unwrap_or, length}
+use Rattle.std.proofs.Common.{◌≡◌, ℕ, List, [], ◌∷◌, Option, Some, None, Bool, true, false, refl, ap}
+use Rattle.std.specs.Prelude.{ℤ, map, cond, option_map, unwrap_or}
 use Rattle.std.specs.List.{find}
 use Rattle.std.specs.Ordering.{int_eq}
 use Rattle.je_machine.specs.Value.{Value, number_of}
 use Rattle.je_machine.specs.Classes.{Classes}
-use Rattle.je_machine.specs.Condition.{condition_operands, is_met}
 use Rattle.je_machine.specs.Outside.{Outside}
 use Rattle.je_machine.specs.Operation.{Operation, Do, Load, Store, Increment, Branch, Goto, Switch, Return}
-use Rattle.je_machine.specs.Frame.{Frame, Stacked, Stands, Breaks, Stalls, perform_basic, frame_of, flow_of, branch, chosen_case, perform, popped, under, top, below, Jumps}
+use Rattle.je_machine.specs.Frame.{Frame, Stacked, Stands, Breaks, Stalls, perform_basic, frame_of, flow_of, branch, chosen_case, perform, top, below, Jumps}
 use Rattle.je_machine.specs.Moved.{retargeted, moved_flow}
 
 stays : (to : ℕ → ℕ) (locals : List Value) (s : Stacked) → flow_of locals s ≡ moved_flow to (flow_of locals s)

@@ -1,17 +1,16 @@
 -- What an action leaves of the outside: events are only added, and answers are only taken from the front.
-use Rattle.std.proofs.Common.{◌≡◌, ℕ, List, [], ◌∷◌, ◌++◌, Option, Some, None, Bool, true, false, ◌&&◌, refl, sym, ap, subst, ◌∙◌}
-use Rattle.std.specs.Prelude.{IsTrue, unsigned_abs, pos, int_lt, map, if◌then◌else◌}
+use Rattle.std.proofs.Common.{◌≡◌, ℕ, List, [], ◌∷◌, ◌++◌, Option, Some, None, Bool, true, false, ◌&&◌, refl, sym, ◌∙◌}
+use Rattle.std.specs.Prelude.{IsTrue, pos, int_lt, map, if◌then◌else◌}
 use Rattle.std.specs.List.{list_any}
 use Rattle.std.specs.Int.{int_wrap}
 use Rattle.std.proofs.lemmas.List.{append-nil}
-use Rattle.je_machine.specs.Value.{Kind, IntKind, LongKind, FloatKind, DoubleKind, ReferenceKind, Value, Int, Long, Flt, Dbl, Null, Obj, Const, admit, admit_all, is_of_kind, zero_of, value_at, number_of, is_null, kind_of}
-use Rattle.je_machine.specs.Heap.{Heap, read_element, make_array}
+use Rattle.je_machine.specs.Value.{Kind, IntKind, LongKind, FloatKind, DoubleKind, ReferenceKind, Value, Int, Long, Flt, Dbl, Null, Obj, Const, admit, admit_all, is_of_kind, zero_of, value_at, number_of, is_null}
 use Rattle.je_machine.specs.Classes.{Classes, is_instance, takes_element}
 use Rattle.je_machine.specs.Calculation.{calculate}
-use Rattle.je_machine.specs.Action.{Action, Calculate, FloatOperation, ArrayLength, LoadElement, StoreElement, GetField, PutField, GetStatic, PutStatic, Invoke, New, NewArray, CheckCast, InstanceOf, MonitorEnter, MonitorExit, kind_of_element, operands_of, result_of, has_target}
-use Rattle.je_machine.specs.Outside.{Outside, Answer, Event, Reply, Gives, Throws, Response, Gave, Threw, Waits, raise, throw_admitted, throw_reference, reply_in, next_reply, next_number, with_event}
-use Rattle.je_machine.specs.Acting.{calculated, loaded, stored, made_array, cast, answer, unless_null, admit_result, admit_response, act_on, act}
-use Rattle.je_machine.specs.Acts.{Keeps, HasKept, GivesKind, is_result, is_reference}
+use Rattle.je_machine.specs.Action.{Action, Calculate, FloatOperation, ArrayLength, LoadElement, StoreElement, GetField, PutField, GetStatic, PutStatic, Invoke, New, NewArray, CheckCast, InstanceOf, MonitorEnter, MonitorExit, operands_of, result_of, has_target}
+use Rattle.je_machine.specs.Outside.{Outside, Answer, Reply, Gives, Throws, Response, Gave, Threw, Waits, raise, throw_admitted, throw_reference, reply_in, next_reply, next_number, with_event}
+use Rattle.je_machine.specs.Acting.{calculated, loaded, stored, cast, answer, unless_null, admit_result, admit_response, act}
+use Rattle.je_machine.specs.Acts.{Keeps, HasKept, GivesKind, is_result}
 
 pub keeps_refl : (o : Outside) → Keeps o o
 keeps_refl o = record { events = ([], sym (append-nil o.events)); answers = ([], refl) }

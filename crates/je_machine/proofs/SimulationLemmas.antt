@@ -1,9 +1,9 @@
 -- A run that follows each step of another shows the same.
-use Rattle.std.proofs.Common.{◌≡◌, ℕ, zero, suc, ◌+◌, ◌<◌, ◌≤◌, refl, sym, ap, ◌∙◌, arith}
+use Rattle.std.proofs.Common.{◌≡◌, ℕ, zero, suc, ◌+◌, ◌≤◌, refl, sym, ap, ◌∙◌, arith}
 use Rattle.std.specs.Prelude.{None}
 use Rattle.je_machine.specs.Outside.{Outside}
 use Rattle.je_machine.specs.Step.{Step, Outcome, Progress, Goes, Stops, advance, iterate, iterate_all}
-use Rattle.je_machine.specs.View.{View, IsSteady, Follows, AgreeingRuns, view_of}
+use Rattle.je_machine.specs.View.{IsSteady, Follows, AgreeingRuns, view_of}
 use Rattle.je_machine.specs.Simulation.{Pairs, IsFollowed, Simulates}
 use Rattle.je_machine.proofs.RunLemmas.{agrees}
 use Rattle.je_machine.proofs.ChainLemmas.{chain_runs}

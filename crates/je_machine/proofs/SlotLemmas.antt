@@ -1,13 +1,11 @@
 -- An operation reads and writes its own slots alone.
-use Rattle.std.proofs.Common.{◌≡◌, ℕ, zero, suc, ◌<◌, List, [], ◌∷◌, length, Option, Some, None, Bool, true, false, refl, sym, ap, subst, ◌∙◌, ◌⊎◌, inl, inr, arith}
-use Rattle.std.specs.Prelude.{ℤ}
-use Rattle.je_machine.specs.Value.{Value, value_at, number_of}
+use Rattle.std.proofs.Common.{◌≡◌, ℕ, zero, suc, List, [], ◌∷◌, Some, None, Bool, true, false, refl, sym, ap, subst, ◌∙◌, ◌⊎◌, inl, inr, arith}
+use Rattle.je_machine.specs.Value.{Value}
 use Rattle.je_machine.specs.Classes.{Classes}
-use Rattle.je_machine.specs.Condition.{condition_operands, is_met}
 use Rattle.je_machine.specs.Outside.{Outside}
 use Rattle.je_machine.specs.Operation.{Operation, Do, Load, Store, Increment, Branch, Goto, Switch, Return}
-use Rattle.je_machine.specs.Frame.{Frame, Stacked, Stands, Breaks, Stalls, perform_basic, frame_of, flow_of, branch, perform, popped, under, top, below, local_at, with_local, incremented}
-use Rattle.je_machine.specs.Slots.{AgreeBelow, UsesBelow, Writes, KeepsLocal, AlikeFrames, AlikeFlows}
+use Rattle.je_machine.specs.Frame.{Frame, Stacked, Stands, Breaks, Stalls, perform_basic, frame_of, flow_of, branch, perform, top, local_at, with_local, incremented}
+use Rattle.je_machine.specs.Slots.{AgreeBelow, UsesBelow, Writes, KeepsLocal, AlikeFlows}
 
 pub written_here : (locals : List Value) (slot : ℕ) (v : Value) → local_at (with_local locals slot v) slot ≡ v
 written_here [] zero v = refl

@@ -1,15 +1,14 @@
 -- The machine's step is steady.
-use Rattle.std.proofs.Common.{◌≡◌, ℕ, zero, suc, ◌+◌, ◌<◌, List, [], ◌∷◌, length, Option, Some, None, Bool, true, false, refl, sym, ap, subst, ◌∙◌, arith}
+use Rattle.std.proofs.Common.{◌≡◌, ℕ, zero, suc, ◌+◌, ◌<◌, List, length, Option, Some, None, Bool, true, false, refl, sym, ap, subst, ◌∙◌, arith}
 use Rattle.std.specs.Prelude.{IsSome, slice_get}
 use Rattle.je_machine.specs.Value.{Value}
 use Rattle.je_machine.specs.Classes.{Classes}
 use Rattle.je_machine.specs.Action.{operands_of}
 use Rattle.je_machine.specs.Operation.{Basic, Nop, Push, Drop, Copy, Swap, Act, Throw, Operation, Do, Load, Store, Increment, Branch, Goto, Switch, Return, Program}
-use Rattle.je_machine.specs.Outside.{Outside, Response, Gave, Threw, Waits, throw_reference}
-use Rattle.je_machine.specs.Acting.{act}
-use Rattle.je_machine.specs.Acts.{Keeps, HasKept}
-use Rattle.je_machine.specs.Frame.{Frame, Stacked, Stands, Breaks, Stalls, stacked, perform_basic, Flow, Falls, Jumps, Leaves, Raises, Halts, flow_of, branch, perform, popped, under, top, below}
-use Rattle.je_machine.specs.Step.{Ending, Outcome, Progress, Goes, Stops, Step}
+use Rattle.je_machine.specs.Outside.{Outside, Response, Gave, Threw, Waits}
+use Rattle.je_machine.specs.Acts.{HasKept}
+use Rattle.je_machine.specs.Frame.{Frame, Stacked, Stands, Breaks, Stalls, stacked, perform_basic, Flow, Falls, Jumps, Leaves, Raises, Halts, flow_of, branch, perform, popped, top}
+use Rattle.je_machine.specs.Step.{Ending, Outcome, Progress, Goes, Stops}
 use Rattle.je_machine.specs.Machine.{State, Outer, follow, enter_handler, perform_at, take_step, machine_step, catcher}
 use Rattle.je_machine.specs.View.{IsSteady, BeginsEvents, outside_after, with_more}
 use Rattle.je_machine.proofs.RunLemmas.{begins_refl, no_value}

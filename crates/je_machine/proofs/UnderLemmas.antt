@@ -1,14 +1,14 @@
 -- What lies under the operands is neither read nor changed.
-use Rattle.std.proofs.Common.{◌≡◌, ℕ, zero, suc, ◌-◌, ◌≤◌, List, [], ◌∷◌, ◌++◌, length, Option, Some, None, Bool, true, false, refl, sym, ap, subst, ◌∙◌, arith, append_assoc}
+use Rattle.std.proofs.Common.{◌≡◌, ℕ, zero, suc, ◌-◌, ◌≤◌, List, [], ◌∷◌, ◌++◌, length, Option, Some, None, Bool, true, false, refl, sym, ap, ◌∙◌, arith, append_assoc}
 use Rattle.std.specs.Prelude.{IsTrue}
-use Rattle.je_machine.specs.Value.{Value, places_of, number_of}
+use Rattle.je_machine.specs.Value.{Value, places_of}
 use Rattle.je_machine.specs.Classes.{Classes}
 use Rattle.je_machine.specs.Condition.{condition_operands, is_met}
 use Rattle.je_machine.specs.Action.{operands_of}
 use Rattle.je_machine.specs.Outside.{Outside, Response, Gave, Threw, Waits, throw_reference}
 use Rattle.je_machine.specs.Acting.{act}
 use Rattle.je_machine.specs.Operation.{Basic, Nop, Push, Drop, Copy, Swap, Act, Throw, Operation, Do, Load, Store, Increment, Branch, Goto, Switch, Return}
-use Rattle.je_machine.specs.Frame.{Frame, Stacked, Stands, Breaks, Stalls, stacked, push, perform_basic, Flow, Falls, Jumps, Leaves, frame_of, flow_of, branch, chosen_case, perform, popped, under, top, below, local_at, with_local, top_places, under_places, copied}
+use Rattle.je_machine.specs.Frame.{stacked, push, perform_basic, Falls, frame_of, flow_of, branch, perform, popped, under, top_places, under_places, copied}
 use Rattle.je_machine.specs.Under.{has_places, HasBasicOperands, HasOperands, over}
 
 popped_over : (k : ℕ) (s u : List Value) → k ≤ length s → popped k (s ++ u) ≡ popped k s

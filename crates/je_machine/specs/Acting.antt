@@ -1,12 +1,12 @@
 -- What each action does (JVMS 6.5).
-use Rattle.std.specs.Prelude.{ℕ, ℤ, pos, List, [], ◌∷◌, map, Option, Some, None, Bool, true, false, ◌&&◌, int_lt, unsigned_abs, codes, if◌then◌else◌}
+use Rattle.std.specs.Prelude.{ℕ, ℤ, pos, List, map, Option, Some, None, Bool, true, false, ◌&&◌, int_lt, unsigned_abs, codes, if◌then◌else◌}
 use Rattle.std.specs.List.{list_any}
 use Rattle.je_desc.specs.FieldType.{FieldType, descriptor}
-use Rattle.je_machine.specs.Value.{Kind, IntKind, Value, Int, Null, zero_of, kind_of, admit, admit_all, number_of, value_at, is_null}
-use Rattle.je_machine.specs.Heap.{FieldKey, Heap, allocate, next_object, new_instance, read_static, write_static, read_field, write_field, array_length, read_element, write_element, make_array}
+use Rattle.je_machine.specs.Value.{Kind, Value, Int, zero_of, kind_of, admit, admit_all, number_of, value_at, is_null}
+use Rattle.je_machine.specs.Heap.{FieldKey, allocate, next_object, new_instance, read_static, write_static, read_field, write_field, array_length, read_element, write_element, make_array}
 use Rattle.je_machine.specs.Classes.{Classes, holder_of, is_instance, takes_element}
 use Rattle.je_machine.specs.Calculation.{calculate}
-use Rattle.je_machine.specs.Action.{Action, Calculate, FloatOperation, ArrayLength, LoadElement, StoreElement, GetField, PutField, GetStatic, PutStatic, Invoke, New, NewArray, CheckCast, InstanceOf, MonitorEnter, MonitorExit, Field, Element, kind_of_element, operands_of, result_of, has_target}
+use Rattle.je_machine.specs.Action.{Action, Calculate, FloatOperation, ArrayLength, LoadElement, StoreElement, GetField, PutField, GetStatic, PutStatic, Invoke, New, NewArray, CheckCast, InstanceOf, MonitorEnter, MonitorExit, Field, kind_of_element, operands_of, result_of, has_target}
 use Rattle.je_machine.specs.Outside.{Outside, Response, Gave, Threw, Waits, with_heap, raise, invoke, float_operation, monitor_operation}
 
 abbrev pub gave : Value → Outside → Response
@@ -78,12 +78,15 @@ answer classes (LoadElement e) ops o =
 answer classes (StoreElement e) ops o =
     let target = value_at ops 0 in
     let i = number_of (value_at ops 1) in
-    stored classes (read_element o.heap (kind_of_element e) target i) (unsigned_abs i) (value_at ops 2) target o
+    stored classes (read_element o.heap (kind_of_element e) target i) (unsigned_abs i)
+    (value_at ops 2) target o
 answer classes (GetField f) ops o =
     gave (read_field o.heap (kind_of f.type) (field_key classes f) (value_at ops 0)) o
 answer classes (PutField f) ops o =
-    Gave None (with_heap (write_field (field_key classes f) (value_at ops 1) (value_at ops 0) o.heap) o)
-answer classes (GetStatic f) ops o = gave (read_static o.heap (kind_of f.type) (field_key classes f)) o
+    Gave None (with_heap (write_field (field_key classes f) (value_at ops 1) (value_at ops 0)
+    o.heap) o)
+answer classes (GetStatic f) ops o =
+    gave (read_static o.heap (kind_of f.type) (field_key classes f)) o
 answer classes (PutStatic f) ops o =
     Gave None (with_heap (write_static (field_key classes f) (value_at ops 0) o.heap) o)
 answer classes (Invoke sort method types) ops o = invoke (Invoke sort method types) ops o
@@ -122,4 +125,5 @@ act_on classes action operands outside =
 -- Operands, the deepest first, and the result are of the kinds of the action. Here, and where a
 -- method is entered, a value of another kind counts as zero, and nowhere else.
 abbrev pub act : Classes → Action → List Value → Outside → Response
-act classes action operands outside = act_on classes action (admit_all (operands_of action) operands) outside
+act classes action operands outside =
+    act_on classes action (admit_all (operands_of action) operands) outside

@@ -79,8 +79,9 @@ calculation_result (Negate whole) = kind_of_whole whole
 calculation_result Extend = LongKind
 calculation_result _ = IntKind
 
--- Sums, differences, products and quotients keep the low bits. A quotient is truncated towards zero,
--- and a remainder has the sign of the dividend; the least number by -1 gives itself, and 0 remains.
+-- Sums, differences, products and quotients keep the low bits. A quotient is truncated towards
+-- zero, and a remainder has the sign of the dividend; the least number by -1 gives itself, and 0
+-- remains.
 abbrev pub binary : Width → BinaryOp → ℤ → ℤ → ℤ
 binary w Add x y = int_wrapping_add w x y
 binary w Subtract x y = int_wrapping_sub w x y
@@ -126,7 +127,8 @@ calculate (Shift whole op) operands =
     let k = distance whole (number_of (value_at operands 1)) in
     Some (value_of_whole whole (shifted (width_of whole) op x k))
 calculate (Negate whole) operands =
-    Some (value_of_whole whole (int_wrapping_neg (width_of whole) (number_of (value_at operands 0))))
+    Some (value_of_whole whole
+    (int_wrapping_neg (width_of whole) (number_of (value_at operands 0))))
 calculate Extend operands = Some (Long (number_of (value_at operands 0)))
 calculate Truncate operands = Some (Int (int_wrap w32 (number_of (value_at operands 0))))
 calculate (Keep part) operands = Some (Int (kept part (number_of (value_at operands 0))))

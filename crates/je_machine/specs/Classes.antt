@@ -6,8 +6,8 @@ use Rattle.je_machine.specs.Content.{Content, Class, Str, MethodHandle}
 use Rattle.je_machine.specs.Value.{Value, Null, Obj, Const}
 use Rattle.je_machine.specs.Heap.{FieldKey, Heap, Object, Instance, Array, object_of}
 
--- The pairs of a class and one above it, and the class that holds a field which is named in another.
--- The first entry for a field counts.
+-- The pairs of a class and one above it, and the class that holds a field which is named in
+-- another. The first entry for a field counts.
 pub record Classes : Type 0 where
   pub below : List (List ℕ × List ℕ)
   pub holders : List (FieldKey × List ℕ)
@@ -23,7 +23,8 @@ holder_of classes key =
 abbrev pub class_of_constant : Content → List ℕ
 class_of_constant (Class name) = codes "java/lang/Class"
 class_of_constant (Str text) = codes "java/lang/String"
-class_of_constant (MethodHandle kind tag class name descriptor) = codes "java/lang/invoke/MethodHandle"
+class_of_constant (MethodHandle kind tag class name descriptor) =
+    codes "java/lang/invoke/MethodHandle"
 class_of_constant _ = codes "java/lang/invoke/MethodType"
 
 -- an object that the heap lacks is a java/lang/Object
@@ -51,7 +52,8 @@ is_some_subclass classes None of = false
 
 -- what the reference refers to is an instance of the class
 abbrev pub is_instance : Classes → Heap → Value → List ℕ → Bool
-is_instance classes heap reference of = is_some_subclass classes (class_of_reference heap reference) of
+is_instance classes heap reference of =
+    is_some_subclass classes (class_of_reference heap reference) of
 
 -- ---- what an array takes (JVMS 6.5, aastore)
 
@@ -73,7 +75,8 @@ takes_class classes heap None value = true
 takes_class classes heap (Some class) Null = true
 takes_class classes heap (Some class) value = is_instance classes heap value class
 
--- the array takes the value: null, or an instance of its component; an array of no references takes all
+-- the array takes the value: null, or an instance of its component; an array of no references
+-- takes all
 abbrev pub takes_element : Classes → Heap → Value → Value → Bool
 takes_element classes heap target value =
     takes_class classes heap (class_named (array_component (object_of heap target))) value

@@ -1,5 +1,5 @@
 -- The conditions of jumps (JVMS 6.5, ifeq to if_acmpne, ifnull and ifnonnull).
-use Rattle.std.specs.Prelude.{ℕ, ℤ, pos, List, [], ◌∷◌, Bool, true, false, not, int_lt, if◌then◌else◌}
+use Rattle.std.specs.Prelude.{ℤ, pos, List, [], ◌∷◌, Bool, true, false, not, int_lt}
 use Rattle.std.specs.Ordering.{int_eq}
 use Rattle.je_machine.specs.Value.{Kind, IntKind, ReferenceKind, Value, number_of, value_at, is_null, is_same_reference}
 

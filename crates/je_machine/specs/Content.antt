@@ -1,4 +1,5 @@
--- What a constant says, with each index of the constant pool replaced by what stands there (JVMS 4.4).
+-- What a constant says, with each index of the constant pool replaced by what stands there (JVMS
+-- 4.4).
 use Rattle.std.specs.Prelude.{ℕ, ℤ, List, Bool, true, false, nat_eq, ◌&&◌}
 use Rattle.je_base.specs.Text.{is_same_text}
 

@@ -1,9 +1,9 @@
 -- The operand stack and the local variables, and what an instruction does with them (JVMS 2.6).
-use Rattle.std.specs.Prelude.{ℕ, zero, suc, ◌-◌, ℤ, pos, List, [], ◌∷◌, ◌++◌, length, Option, Some, None, unwrap_or, option_map, Bool, true, false, if◌then◌else◌}
+use Rattle.std.specs.Prelude.{ℕ, zero, suc, ◌-◌, ℤ, pos, List, [], ◌∷◌, ◌++◌, length, Option, Some, None, unwrap_or, option_map, Bool, true, false}
 use Rattle.std.specs.List.{find}
 use Rattle.std.specs.Ordering.{int_eq}
 use Rattle.std.specs.Int.{w32, int_wrapping_add}
-use Rattle.je_machine.specs.Value.{Kind, IntKind, Value, Int, Null, admit, number_of, places_of, value_at}
+use Rattle.je_machine.specs.Value.{IntKind, Value, Int, Null, admit, number_of, places_of, value_at}
 use Rattle.je_machine.specs.Classes.{Classes}
 use Rattle.je_machine.specs.Condition.{condition_operands, is_met}
 use Rattle.je_machine.specs.Action.{operands_of}
@@ -72,7 +72,8 @@ with_local (old ∷ locals) (suc slot) value = old ∷ with_local locals slot va
 
 -- the low 32 bits of the sum
 abbrev pub incremented : ℤ → Value → Value
-incremented by value = admit IntKind (Int (int_wrapping_add w32 (number_of (admit IntKind value)) by))
+incremented by value =
+    admit IntKind (Int (int_wrapping_add w32 (number_of (admit IntKind value)) by))
 
 -- ---- one instruction
 
@@ -97,10 +98,11 @@ perform_basic classes Swap stack outside =
 perform_basic classes (Act action) stack outside =
     let count = length (operands_of action) in
     stacked (under count stack) (act classes action (popped count stack) outside)
-perform_basic classes Throw stack outside = stacked (below stack) (throw_reference (top stack) outside)
+perform_basic classes Throw stack outside =
+    stacked (below stack) (throw_reference (top stack) outside)
 
--- Where an instruction leads: to the next one, to a target, out of the method with a result if it has
--- one, to a handler or out by a throw, or nowhere as long as no answer comes.
+-- Where an instruction leads: to the next one, to a target, out of the method with a result if it
+-- has one, to a handler or out by a throw, or nowhere as long as no answer comes.
 pub data Flow : Type 0 where
   Falls : (frame : Frame) (outside : Outside) → Flow
   Jumps : (target : ℕ) (frame : Frame) (outside : Outside) → Flow
@@ -122,16 +124,19 @@ branch false target frame outside = Falls frame outside
 
 -- the target of the first case of this key
 abbrev pub chosen_case : List (ℤ × ℕ) → ℕ → ℤ → ℕ
-chosen_case cases fallback key = unwrap_or (option_map (λ c. c.1) (find (λ c. int_eq c.0 key) cases)) fallback
+chosen_case cases fallback key =
+    unwrap_or (option_map (λ c. c.1) (find (λ c. int_eq c.0 key) cases)) fallback
 
 abbrev pub perform : Classes → Operation → Frame → Outside → Flow
-perform classes (Do basic) frame outside = flow_of frame.locals (perform_basic classes basic frame.stack outside)
+perform classes (Do basic) frame outside =
+    flow_of frame.locals (perform_basic classes basic frame.stack outside)
 perform classes (Load kind slot) frame outside =
     Falls (frame_of (local_at frame.locals slot ∷ frame.stack) frame.locals) outside
 perform classes (Store kind slot) frame outside =
     Falls (frame_of (below frame.stack) (with_local frame.locals slot (top frame.stack))) outside
 perform classes (Increment slot by) frame outside =
-    Falls (frame_of frame.stack (with_local frame.locals slot (incremented by (local_at frame.locals slot)))) outside
+    Falls (frame_of frame.stack
+    (with_local frame.locals slot (incremented by (local_at frame.locals slot)))) outside
 perform classes (Branch condition target) frame outside =
     let count = length (condition_operands condition) in
     branch (is_met condition (popped count frame.stack)) target

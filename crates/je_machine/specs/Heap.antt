@@ -1,6 +1,5 @@
 -- Objects, static fields, and the total functions that read and write them (JVMS 2.5.3).
-use Rattle.std.specs.Prelude.{ℕ, zero, suc, ℤ, pos, negsuc, ◌^◌, ◌-◌, List, [], ◌∷◌, ◌++◌, length, take, drop, replicate, slice_get, slice_set, Option, Some, None, unwrap_or, option_and_then, option_map, Bool, true, false, ◌||◌, ◌&&◌, codes, if◌then◌else◌, ◌==◌}
-use Rattle.std.specs.List.{find, list_any}
+use Rattle.std.specs.Prelude.{ℕ, zero, suc, ℤ, pos, negsuc, ◌^◌, List, [], ◌∷◌, ◌++◌, length, replicate, slice_get, slice_set, Option, Some, None, unwrap_or, option_map, codes, if◌then◌else◌}
 use Rattle.std.specs.declared.cmp.Ordering.{Ordering}
 use Rattle.std.specs.Ordering.{nat_cmp, ordering_then}
 use Rattle.std.specs.Int.{w8, w16, int_wrap, int_rem_euclid}
@@ -9,8 +8,7 @@ use Rattle.std.specs.FinMap.{FinMap, empty, get, insert}
 use Rattle.je_base.specs.Text.{is_same_text}
 use Rattle.je_desc.specs.FieldType.{FieldType, descriptor}
 use Rattle.je_desc.specs.FieldType as types
-use Rattle.je_machine.specs.Content.{Content, Class, Str, MethodHandle}
-use Rattle.je_machine.specs.Value.{Kind, Value, Int, Null, Obj, Const, kind_of, zero_of, admit}
+use Rattle.je_machine.specs.Value.{Kind, Value, Int, Null, Obj, kind_of, zero_of, admit}
 
 -- a field by the class that holds it, its name and its descriptor
 abbrev pub FieldKey : Type 0
@@ -77,7 +75,10 @@ with_field key value _ number objects = objects
 
 abbrev pub write_field : FieldKey → Value → Value → Heap → Heap
 write_field key value (Obj number) heap =
-    record heap { objects = with_field key value (slice_get heap.objects number) number heap.objects }
+    record heap {
+      objects =
+          with_field key value (slice_get heap.objects number) number heap.objects;
+    }
 write_field key value _ heap = heap
 
 -- ---- elements: what is no array has the length 0
@@ -118,7 +119,10 @@ with_element i value _ number objects = objects
 
 abbrev pub write_element : ℕ → Value → Value → Heap → Heap
 write_element i value (Obj number) heap =
-    record heap { objects = with_element i value (slice_get heap.objects number) number heap.objects }
+    record heap {
+      objects =
+          with_element i value (slice_get heap.objects number) number heap.objects;
+    }
 write_element i value _ heap = heap
 
 -- ---- new arrays (JVMS 6.5, newarray, anewarray and multianewarray)
@@ -130,7 +134,8 @@ component_of type = type
 
 -- an array of the type with so many elements, all zero
 abbrev pub new_array : FieldType → ℕ → Object
-new_array type size = Array (descriptor type) (replicate size (zero_of (kind_of (component_of type))))
+new_array type size =
+    Array (descriptor type) (replicate size (zero_of (kind_of (component_of type))))
 
 -- what is made, and the heap after it
 abbrev pub Making : Type 0 → Type 0
@@ -147,8 +152,8 @@ make_many make (suc count) heap =
     let rest = make_many make count first.1 in
     (first.0 ∷ rest.0, rest.1)
 
--- An array of the type, by its sizes from the outermost dimension. An array of arrays is made behind
--- its elements.
+-- An array of the type, by its sizes from the outermost dimension. An array of arrays is made
+-- behind its elements.
 abbrev pub make_array : FieldType → List ℕ → Making Value
 make_array type [] heap = (Null, heap)
 make_array type (size ∷ []) heap = make_object (new_array type size) heap

@@ -32,19 +32,22 @@ TargetsIn inside (Switch cases fallback) =
     AllByRecursion (λ c. IsTrue (inside c.1)) cases × IsTrue (inside fallback)
 TargetsIn inside _ = Unit {0}
 
--- What stands at a place of the old program stands where the map sends the place, and all to which it
--- leads is in the set. The entries that cover the two places are the same, in order, moved.
-pub record MovesPlace (to : ℕ → ℕ) (inside : ℕ → Bool) (old new : Program) (place : ℕ) : Type 0 where
-  pub operation : slice_get new.operations (to place) ≡ option_map (retargeted to) (slice_get old.operations place)
-  pub targets : IfSome (slice_get old.operations place) (TargetsIn inside)
-  pub next : IfSome (slice_get old.operations place)
-      (λ o. IsTrue (may_fall o) → IsTrue (inside (suc place)) × (to (suc place) ≡ suc (to place)))
-  pub ways : ways_at new.handlers (to place) ≡ map (moved_way to) (ways_at old.handlers place)
-  pub caught : AllByRecursion (λ (w : Way). IsTrue (inside w.0)) (ways_at old.handlers place)
+-- What stands at a place of the old program stands where the map sends the place, and all to which
+-- it leads is in the set. The entries that cover the two places are the same, in order, moved.
+pub record MovesPlace (to : ℕ → ℕ) (inside : ℕ → Bool) (old new : Program) (place : ℕ) : Type 0
+  where
+    pub operation : slice_get new.operations (to place)
+        ≡ option_map (retargeted to) (slice_get old.operations place)
+    pub targets : IfSome (slice_get old.operations place) (TargetsIn inside)
+    pub next : IfSome (slice_get old.operations place)
+        (λ o. IsTrue (may_fall o) → IsTrue (inside (suc place)) × (to (suc place) ≡ suc (to place)))
+    pub ways : ways_at new.handlers (to place) ≡ map (moved_way to) (ways_at old.handlers place)
+    pub caught : AllByRecursion (λ (w : Way). IsTrue (inside w.0)) (ways_at old.handlers place)
 
 -- this holds of each place of the set
 abbrev pub MovesProgram : (ℕ → ℕ) → (ℕ → Bool) → Program → Program → Type 0
-MovesProgram to inside old new = (place : ℕ) → IsTrue (inside place) → MovesPlace to inside old new place
+MovesProgram to inside old new = (place : ℕ) → IsTrue (inside place) →
+    MovesPlace to inside old new place
 
 abbrev pub moved_state : (ℕ → ℕ) → State → State
 moved_state to s = state_at (to s.place) s.frame s.outside

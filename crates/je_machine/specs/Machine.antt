@@ -39,7 +39,8 @@ is_handler_of classes heap reference place handler =
 -- the first handler that covers the place and fits
 abbrev pub catcher : List Handler → Classes → ℕ → Outer
 catcher handlers classes place heap reference =
-    option_map (λ (h : Handler). h.target) (find (is_handler_of classes heap reference place) handlers)
+    option_map (λ (h : Handler). h.target)
+    (find (is_handler_of classes heap reference place) handlers)
 
 -- the exception alone is on the stack of a handler
 abbrev pub enter_handler : Option ℕ → ℕ → Value → List Value → Outside → Progress State
@@ -49,11 +50,12 @@ enter_handler None left reference locals outside = ends (Thrown reference) left 
 
 -- ---- the machine's step
 
--- what follows an instruction, by the place behind it, where throws go, what is left of the bound, and
--- the locals before it
+-- what follows an instruction, by the place behind it, where throws go, what is left of the bound,
+-- and the locals before it
 abbrev pub follow : ℕ → Outer → ℕ → List Value → Flow → Progress State
 follow next outer left locals (Falls frame outside) = Goes left (state_at next frame outside)
-follow next outer left locals (Jumps target frame outside) = Goes left (state_at target frame outside)
+follow next outer left locals (Jumps target frame outside) =
+    Goes left (state_at target frame outside)
 follow next outer left locals (Leaves result outside) = ends (Returned result) left locals outside
 follow next outer left locals (Raises reference outside) =
     enter_handler (outer outside.heap reference) left reference locals outside
@@ -73,7 +75,12 @@ take_step program classes (suc left) s =
 
 abbrev pub machine_step : Program → Classes → Step State
 machine_step program classes =
-    record { take = take_step program classes; locals = λ s. s.frame.locals; outside = λ s. s.outside }
+    record {
+      take = take_step program classes;
+      locals = λ s. s.frame.locals;
+      outside =
+          λ s. s.outside;
+    }
 
 -- ---- the start of a method
 
@@ -88,7 +95,8 @@ places _ value = value ∷ []
 abbrev pub enter : List Kind → List Value → List Value
 enter [] arguments = []
 enter (kind ∷ kinds) [] = places kind (zero_of kind) ++ enter kinds []
-enter (kind ∷ kinds) (argument ∷ arguments) = places kind (admit kind argument) ++ enter kinds arguments
+enter (kind ∷ kinds) (argument ∷ arguments) =
+    places kind (admit kind argument) ++ enter kinds arguments
 
 abbrev pub start_of : Program → List Value → Heap → List Answer → State
 start_of program arguments heap answers =

@@ -1,5 +1,5 @@
 -- An instruction whose targets are moved (JVMS 6.5), and an entry of the exception table.
-use Rattle.std.specs.Prelude.{ℕ, ℤ, map}
+use Rattle.std.specs.Prelude.{ℕ, map}
 use Rattle.je_machine.specs.Operation.{Operation, Do, Load, Store, Increment, Branch, Goto, Switch, Return, Handler}
 use Rattle.je_machine.specs.Frame.{Flow, Falls, Jumps, Leaves, Raises, Halts}
 
@@ -25,4 +25,10 @@ moved_flow to (Halts outside) = Halts outside
 -- an entry with its range under one map and its target under another
 abbrev pub moved_handler : (ℕ → ℕ) → (ℕ → ℕ) → Handler → Handler
 moved_handler range to h =
-    record { start = range h.start; end = range h.end; target = to h.target; catch_class = h.catch_class }
+    record {
+      start = range h.start;
+      end = range h.end;
+      target = to h.target;
+      catch_class =
+          h.catch_class;
+    }

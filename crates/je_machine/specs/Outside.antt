@@ -26,8 +26,8 @@ pub record Outside : Type 0 where
   pub events : List Event
   pub answers : List Answer
 
--- What an action comes to: a value if it has a result, a throw, or no answer, since all are used up.
--- Then the run waits.
+-- What an action comes to: a value if it has a result, a throw, or no answer, since all are used
+-- up. Then the run waits.
 pub data Response : Type 0 where
   Gave : (value : Option Value) (after : Outside) → Response
   Threw : (reference : Value) (after : Outside) → Response
@@ -40,7 +40,8 @@ with_heap heap outside = record outside { heap = heap }
 -- an exception of the machine's own: a new object of the class
 abbrev pub raise : List ℕ → Outside → Response
 raise class outside =
-    Threw (next_object outside.heap) (with_heap (allocate (new_instance class) outside.heap) outside)
+    Threw (next_object outside.heap)
+    (with_heap (allocate (new_instance class) outside.heap) outside)
 
 abbrev pub throw_admitted : Value → Outside → Response
 throw_admitted (Obj number) outside = Threw (Obj number) outside
@@ -59,7 +60,8 @@ reply_in (Throws reference) outside = throw_reference reference outside
 abbrev pub with_event : Action → List Value → Outside → Outside
 with_event action operands outside =
     record outside {
-      events = outside.events ++ record { action = action; operands = operands; heap = outside.heap } ∷ [];
+      events = outside.events
+          ++ record { action = action; operands = operands; heap = outside.heap } ∷ [];
     }
 
 -- takes the next answer

@@ -1,14 +1,14 @@
 -- Small heaps, answers and methods, by which laws show what the machine does.
 use Rattle.std.specs.Prelude.{ℕ, ℤ, pos, List, [], ◌∷◌, Option, Some, None, codes}
 use Rattle.std.specs.FinMap.{empty}
-use Rattle.je_desc.specs.FieldType.{Base}
+use Rattle.je_desc.specs.FieldType.{FieldType, Base}
 use Rattle.je_desc.specs.FieldType as types
 use Rattle.je_machine.specs.Content.{Member, Method, Str}
-use Rattle.je_machine.specs.Value.{IntKind, FloatKind, ReferenceKind, Value, Int, Long, Const}
-use Rattle.je_machine.specs.Heap.{Object, Array, Heap}
+use Rattle.je_machine.specs.Value.{IntKind, FloatKind, ReferenceKind, Value, Int, Long, Null, Obj, Const}
+use Rattle.je_machine.specs.Heap.{Object, Array, Heap, Fields, new_instance}
 use Rattle.je_machine.specs.Classes.{Classes}
 use Rattle.je_machine.specs.Action.{Action, Sort, Static, Invoke, FloatOperation}
-use Rattle.je_machine.specs.Outside.{Outside, Answer, Gives, Throws}
+use Rattle.je_machine.specs.Outside.{Outside, Answer, Gives, Throws, Response, Threw}
 use Rattle.je_machine.specs.Operation.{Act, Push, Throw, Do, Load, Store, Increment, Goto, Return, Handler, Program}
 use Rattle.je_machine.specs.Step.{Ending, Outcome}
 
@@ -31,12 +31,38 @@ three_objects a b c = objects_alone (a ∷ b ∷ c ∷ [])
 abbrev pub array_of : List ℕ → ℤ → Object
 array_of type n = Array type (Int n ∷ [])
 
+abbrev pub bytes : Object
+bytes = array_of (codes "[B") (pos 5)
+
+-- an array of C, with null in it
+abbrev pub c_array : Object
+c_array = Array (codes "[LC;") (Null ∷ [])
+
+-- a new object of the class is thrown, and stands behind the other
+abbrev pub throws_new : Object → List ℕ → Response
+throws_new a class = Threw (Obj 1) (two_objects a (new_instance class))
+
+-- the type `int[]`
+abbrev pub ints : FieldType
+ints = types.Array (Base types.Int)
+
+abbrev pub no_objects : Fields → Heap
+no_objects statics = record { objects = []; statics = statics }
+
+-- with a NullPointerException alone
+abbrev pub null_thrown : Fields → Heap
+null_thrown statics = record {
+  objects = new_instance (codes "java/lang/NullPointerException") ∷ [];
+  statics = statics;
+}
+
 -- ---- classes: C is below D, and D holds the int f that is named in C
 
 abbrev pub c_below_d : Classes
 c_below_d = record {
   below = (codes "C", codes "D") ∷ [];
-  holders = ((codes "C", codes "f", codes "I"), codes "D") ∷ ((codes "C", codes "f", codes "I"), codes "E") ∷ [];
+  holders = ((codes "C", codes "f", codes "I"), codes "D")
+      ∷ ((codes "C", codes "f", codes "I"), codes "E") ∷ [];
 }
 
 -- ---- calls and answers
@@ -63,6 +89,10 @@ abbrev pub call_of : Sort → Action
 call_of sort =
     Invoke sort (Member Method (codes "C") (codes "m") (codes "(IJ)I"))
     (record { params = Base types.Int ∷ Base types.Long ∷ []; result = Some (Base types.Int) })
+
+-- its arguments, without a target
+abbrev pub arguments : List Value
+arguments = Int (pos 3) ∷ Long (pos 4) ∷ []
 
 -- fadd
 abbrev pub float_sum : Action

@@ -24,7 +24,8 @@ Writes slot _ = ⊥
 -- the local variable is what it was, where the method goes on
 abbrev pub KeepsLocal : ℕ → List Value → Flow → Type 0
 KeepsLocal slot locals (Falls frame outside) = local_at frame.locals slot ≡ local_at locals slot
-KeepsLocal slot locals (Jumps target frame outside) = local_at frame.locals slot ≡ local_at locals slot
+KeepsLocal slot locals (Jumps target frame outside) =
+    local_at frame.locals slot ≡ local_at locals slot
 KeepsLocal slot locals _ = Unit {0}
 
 -- two frames of equal stacks, whose local variables are the same below a slot

@@ -1,5 +1,5 @@
 -- Runs: steps over any type of states, until one stops or a bound is used up.
-use Rattle.std.specs.Prelude.{◌≡◌, ℕ, zero, suc, ◌+◌, ◌≤◌, List, Option, Some, None}
+use Rattle.std.specs.Prelude.{◌≡◌, ℕ, zero, suc, ◌≤◌, List, Option, Some, None}
 use Rattle.je_machine.specs.Value.{Value}
 use Rattle.je_machine.specs.Outside.{Outside}
 
@@ -8,29 +8,30 @@ pub data Ending : Type 0 where
   Returned : (result : Option Value) → Ending
   Thrown : (reference : Value) → Ending
 
--- what a run has come to: how it ended, or none where it goes on, what is left of the bound, and the
--- locals and the outside as they are then
+-- what a run has come to: how it ended, or none where it goes on, what is left of the bound, and
+-- the locals and the outside as they are then
 pub record Outcome : Type 0 where
   pub ending : Option Ending
   pub left : ℕ
   pub locals : List Value
   pub outside : Outside
 
--- A step goes on in another state with this bound left, or stops: the method ended, the bound is used
--- up, or no answer comes.
+-- A step goes on in another state with this bound left, or stops: the method ended, the bound is
+-- used up, or no answer comes.
 pub data Progress (S : Type 0) : Type 0 where
   Goes : (left : ℕ) (state : S) → Progress S
   Stops : (outcome : Outcome) → Progress S
 
--- What is done from a bound and a state, and the locals and the outside of a state. A step that goes
--- on spends at least one of the bound.
+-- What is done from a bound and a state, and the locals and the outside of a state. A step that
+-- goes on spends at least one of the bound.
 pub record Step (S : Type 0) : Type 0 where
   pub take : ℕ → S → Progress S
   pub locals : S → List Value
   pub outside : S → Outside
 
 abbrev pub goes_on : {S : Type 0} → ℕ → List Value → Outside → Progress S
-goes_on left locals outside = Stops (record { ending = None; left = left; locals = locals; outside = outside })
+goes_on left locals outside =
+    Stops (record { ending = None; left = left; locals = locals; outside = outside })
 
 abbrev pub ends : {S : Type 0} → Ending → ℕ → List Value → Outside → Progress S
 ends ending left locals outside =
@@ -65,8 +66,8 @@ abbrev pub Chain : {S : Type 0} → Step S → ℕ → S → S → Type 0
 Chain step zero s t = s ≡ t
 Chain {S} step (suc count) s t = (u : S) × Takes step s u × Chain step count u t
 
--- what the run from the second state comes to under any bound, the run from the first comes to under
--- some bound that is not less
+-- what the run from the second state comes to under any bound, the run from the first comes to
+-- under some bound that is not less
 abbrev pub ComesTo : {S : Type 0} → Step S → S → S → Type 0
 ComesTo step s t =
     (n : ℕ) → (m : ℕ) × (n ≤ m) × (iterate_all step m s ≡ iterate_all step n t)

@@ -1,9 +1,9 @@
 -- What an instruction takes from the stack, and what lies under it (JVMS 2.6.2).
-use Rattle.std.specs.Prelude.{ℕ, zero, suc, ◌-◌, ◌≤◌, List, [], ◌∷◌, ◌++◌, length, Option, Some, None, Bool, true, false, IsTrue}
+use Rattle.std.specs.Prelude.{ℕ, zero, suc, ◌-◌, ◌≤◌, List, [], ◌∷◌, ◌++◌, length, Some, Bool, true, false, IsTrue}
 use Rattle.je_machine.specs.Value.{Value, places_of}
 use Rattle.je_machine.specs.Condition.{condition_operands}
 use Rattle.je_machine.specs.Action.{operands_of}
-use Rattle.je_machine.specs.Operation.{Basic, Nop, Push, Drop, Copy, Swap, Act, Throw, Operation, Do, Load, Store, Increment, Branch, Goto, Switch, Return}
+use Rattle.je_machine.specs.Operation.{Basic, Drop, Copy, Swap, Act, Throw, Operation, Do, Store, Branch, Switch, Return}
 use Rattle.je_machine.specs.Frame.{Flow, Falls, Jumps, Leaves, Raises, Halts, frame_of, under_places}
 
 -- the values fill so many places
@@ -33,7 +33,8 @@ HasOperands _ stack = Unit {0}
 -- the flow with these values under its stack
 abbrev pub over : List Value → Flow → Flow
 over under (Falls frame outside) = Falls (frame_of (frame.stack ++ under) frame.locals) outside
-over under (Jumps target frame outside) = Jumps target (frame_of (frame.stack ++ under) frame.locals) outside
+over under (Jumps target frame outside) =
+    Jumps target (frame_of (frame.stack ++ under) frame.locals) outside
 over under (Leaves result outside) = Leaves result outside
 over under (Raises reference outside) = Raises reference outside
 over under (Halts outside) = Halts outside

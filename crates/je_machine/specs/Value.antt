@@ -54,7 +54,8 @@ is_of_kind ReferenceKind (Obj number) = true
 is_of_kind ReferenceKind (Const content) = is_loadable content
 is_of_kind _ _ = false
 
--- A value that enters the machine: one that is not of the kind wanted counts as the zero of that kind.
+-- A value that enters the machine: one that is not of the kind wanted counts as the zero of that
+-- kind.
 abbrev pub admit : Kind → Value → Value
 admit kind value = if is_of_kind kind value then value else zero_of kind
 

@@ -1,5 +1,5 @@
 -- What an observer sees of a run.
-use Rattle.std.specs.Prelude.{◌≡◌, ℕ, ◌+◌, ◌<◌, ◌≤◌, List, ◌++◌, Option, Some, None, IsSome, option_map}
+use Rattle.std.specs.Prelude.{◌≡◌, ℕ, ◌+◌, ◌<◌, ◌≤◌, List, ◌++◌, Option, None, IsSome, option_map}
 use Rattle.je_machine.specs.Heap.{Heap}
 use Rattle.je_machine.specs.Outside.{Event, Outside}
 use Rattle.je_machine.specs.Step.{Ending, Outcome, Progress, Goes, Stops, Step}
@@ -35,23 +35,24 @@ outside_after step (Stops outcome) = outcome.outside
 abbrev pub with_more : ℕ → Outcome → Outcome
 with_more more o = record o { left = o.left + more }
 
--- A step that goes on spends some of the bound, and with more of it left does the same and leaves as
--- much more. One that ends the method does so with more left too. One that stopped otherwise shows no
--- less with more left. Events are only added.
+-- A step that goes on spends some of the bound, and with more of it left does the same and leaves
+-- as much more. One that ends the method does so with more left too. One that stopped otherwise
+-- shows no less with more left. Events are only added.
 pub record IsSteady {S : Type 0} (step : Step S) : Type 0 where
   pub spends : (bound left : ℕ) (s t : S) → step.take bound s ≡ Goes left t → left < bound
   pub goes_on : (bound left more : ℕ) (s t : S) → step.take bound s ≡ Goes left t
       → step.take (bound + more) s ≡ Goes (left + more) t
   pub ends : (bound more : ℕ) (s : S) (o : Outcome) → step.take bound s ≡ Stops o → IsSome o.ending
       → step.take (bound + more) s ≡ Stops (with_more more o)
-  pub adds : (bound : ℕ) (s : S) → BeginsEvents (step.outside s) (outside_after step (step.take bound s))
+  pub adds : (bound : ℕ) (s : S) →
+      BeginsEvents (step.outside s) (outside_after step (step.take bound s))
   pub waits : (bound more : ℕ) (s : S) (o : Outcome) → step.take bound s ≡ Stops o → o.ending ≡ None
       → BeginsEvents o.outside (outside_after step (step.take (bound + more) s))
 
 -- ---- two runs that show the same
 
--- What the first run shows under a bound the second shows under some bound, which is less by at most
--- the lag.
+-- What the first run shows under a bound the second shows under some bound, which is less by at
+-- most the lag.
 pub record Follows (old new : ℕ → Outcome) (lag n : ℕ) : Type 0 where
   pub bound : ℕ
   pub near : n ≤ bound + lag

@@ -12,9 +12,11 @@ ghost use Rattle.je_machine.specs.Acts.{HasKept, GivesKind};
 pub fn actions_do()
     // It only adds events and only takes answers from the front, and what it throws is a reference
     // that is not null.
-    ensures keeps { (classes : Classes) (action : Action) (operands : List Value) (outside : Outside) →
+    ensures keeps { (classes : Classes) (action : Action) (operands : List Value)
+        (outside : Outside) →
         HasKept outside (act classes action operands outside) }
     // What it gives is of the kind of its result, and an action without a result gives none.
-    ensures gives { (classes : Classes) (action : Action) (operands : List Value) (outside : Outside) →
+    ensures gives { (classes : Classes) (action : Action) (operands : List Value)
+        (outside : Outside) →
         GivesKind (result_of action) (act classes action operands outside) }
 {}

@@ -18,14 +18,19 @@ pub fn static_fields()
 /// A field of an object is read as it was written, and its other fields, other objects and static
 /// fields stay.
 pub fn object_fields()
-    ensures written { (heap : Heap) (kind : Kind) (key : FieldKey) (value : Value) (number : ℕ) (class : List ℕ) (fields : Fields) →
+    ensures written { (heap : Heap) (kind : Kind) (key : FieldKey) (value : Value) (number : ℕ)
+        (class : List ℕ) (fields : Fields) →
         object_of heap (Obj number) ≡ Some (Instance class fields)
-        → read_field (write_field key value (Obj number) heap) kind key (Obj number) ≡ admit kind value }
-    ensures other { (heap : Heap) (kind : Kind) (key other : FieldKey) (value : Value) (number : ℕ) → other ≢ key
+        → read_field (write_field key value (Obj number) heap) kind key (Obj number)
+        ≡ admit kind value }
+    ensures other { (heap : Heap) (kind : Kind) (key other : FieldKey) (value : Value) (number : ℕ)
+        → other ≢ key
         → read_field (write_field key value (Obj number) heap) kind other (Obj number)
         ≡ read_field heap kind other (Obj number) }
-    ensures objects { (heap : Heap) (key : FieldKey) (value : Value) (number another : ℕ) → (another ≡ number → ⊥)
-        → object_of (write_field key value (Obj number) heap) (Obj another) ≡ object_of heap (Obj another) }
+    ensures objects { (heap : Heap) (key : FieldKey) (value : Value) (number another : ℕ) →
+        (another ≡ number → ⊥)
+        → object_of (write_field key value (Obj number) heap) (Obj another)
+        ≡ object_of heap (Obj another) }
     ensures statics { (heap : Heap) (key : FieldKey) (value : Value) (number : ℕ) →
         (write_field key value (Obj number) heap).statics ≡ heap.statics }
     // The order of fields is total.

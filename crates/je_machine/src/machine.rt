@@ -20,10 +20,11 @@ pub fn machine_runs()
         ≡ with_more (n - m) (iterate_all (machine_step p classes) m s) }
 {}
 
-/// A program whose instructions stand at other places comes to the same, at each bound. The places are a
-/// set that is closed under what instructions and the entries at them lead to.
+/// A program whose instructions stand at other places comes to the same, at each bound. The places
+/// are a set that is closed under what instructions and the entries at them lead to.
 pub fn moved_programs()
-    ensures { (to : ℕ → ℕ) (inside : ℕ → Bool) (old new : Program) → MovesProgram to inside old new →
+    ensures { (to : ℕ → ℕ) (inside : ℕ → Bool) (old new : Program) →
+        MovesProgram to inside old new →
         (classes : Classes) (s : State) → IsTrue (inside s.place) → (n : ℕ) →
         iterate_all (machine_step new classes) n (moved_state to s)
         ≡ iterate_all (machine_step old classes) n s }

@@ -28,26 +28,31 @@ pub fn agreement<S>()
         → AgreeingRuns old (λ m. iterate_all step m s) }
 {}
 
-/// A run that follows each step of another, and falls behind by a bounded lag alone, shows the same and
-/// no more. Which states are paired is any type `I` with two maps to states.
+/// A run that follows each step of another, and falls behind by a bounded lag alone, shows the
+/// same and no more. Which states are paired is any type `I` with two maps to states.
 pub fn simulation<I, S, U>()
-    ensures follows { (pairs : Pairs I S U) (old : Step S) (new : Step U) → Simulates pairs old new → (i : I) (n : ℕ) →
-        Follows (λ k. iterate_all old k (pairs.old i)) (λ m. iterate_all new m (pairs.new i)) (pairs.lag i) n }
-    ensures agrees { (pairs : Pairs I S U) (old : Step S) (new : Step U) → Simulates pairs old new → IsSteady new → (i : I) →
+    ensures follows { (pairs : Pairs I S U) (old : Step S) (new : Step U) →
+        Simulates pairs old new → (i : I) (n : ℕ) →
+        Follows (λ k. iterate_all old k (pairs.old i)) (λ m. iterate_all new m (pairs.new i))
+        (pairs.lag i) n }
+    ensures agrees { (pairs : Pairs I S U) (old : Step S) (new : Step U) → Simulates pairs old new →
+        IsSteady new → (i : I) →
         AgreeingRuns (λ k. iterate_all old k (pairs.old i)) (λ m. iterate_all new m (pairs.new i)) }
 {}
 
 /// Stretches of a run: one step, several in a row, and what they come to.
 pub fn stretches<S>()
     ensures nothing { (step : Step S) (s : S) → ComesTo step s s }
-    ensures joined { (step : Step S) (s t u : S) → ComesTo step s t → ComesTo step t u → ComesTo step s u }
+    ensures joined { (step : Step S) (s t u : S) → ComesTo step s t → ComesTo step t u →
+        ComesTo step s u }
     ensures one { (step : Step S) (s t : S) → Takes step s t → ComesTo step s t }
     // The bound of a stretch of so many steps is that much more.
     ensures runs { (step : Step S) (count : ℕ) (s t : S) → Chain step count s t → (n : ℕ)
         → iterate_all step (n + count) s ≡ iterate_all step n t }
     ensures chains_joined { (step : Step S) (m n : ℕ) (s t u : S) →
         Chain step m s t → Chain step n t u → Chain step (m + n) s u }
-    ensures comes { (step : Step S) (count : ℕ) (s t : S) → Chain step count s t → ComesTo step s t }
+    ensures comes { (step : Step S) (count : ℕ) (s t : S) → Chain step count s t →
+        ComesTo step s t }
     // What a stretch comes to, the run shows.
     ensures shows { (step : Step S) (s t : S) → ComesTo step s t → (n : ℕ)
         → (m : ℕ) × (n ≤ m) × (view_of (iterate_all step m s) ≡ view_of (iterate_all step n t)) }

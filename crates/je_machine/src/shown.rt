@@ -13,7 +13,7 @@ ghost use Rattle.je_machine.specs.Operation.{Swap, Act};
 ghost use Rattle.je_machine.specs.Frame.{Stands, copied, under_places, perform_basic, chosen_case, frame_of};
 ghost use Rattle.je_machine.specs.Step.{Returned, Thrown, Goes};
 ghost use Rattle.je_machine.specs.Machine.{enter, covers, catcher, enter_handler, state_at, run_of};
-ghost use Rattle.je_machine.specs.Sample.{c_below_d, before, seen, throw_answer, call_of, entry, catching, caught, uncaught, counter, outcome};
+ghost use Rattle.je_machine.specs.Sample.{ints, no_objects, c_below_d, before, seen, throw_answer, call_of, entry, catching, caught, uncaught, counter, outcome};
 
 /// The ranges of values, and what counts as zero (JVMS 2.3 and 2.4).
 pub fn values_are_admitted()
@@ -80,7 +80,8 @@ pub fn values_are_copied()
         perform_basic classes Swap (u ∷ v ∷ s) o
         ≡ Stands (v ∷ u ∷ s) o }
     ensures operands { (classes : Classes) (s : List Value) (o : Outside) →
-        perform_basic classes (Act (Calculate (Binary IntWhole Subtract))) (Int (pos 3) ∷ Int (pos 10) ∷ s) o
+        perform_basic classes (Act (Calculate (Binary IntWhole Subtract)))
+        (Int (pos 3) ∷ Int (pos 10) ∷ s) o
         ≡ Stands (Int (pos 7) ∷ s) o }
 {}
 
@@ -96,9 +97,11 @@ pub fn conditions_are_met()
     ensures null { is_met (IsNull true) (Null ∷ []) ≡ true }
     ensures objects { is_met (Same true) (Obj 1 ∷ Obj 2 ∷ []) ≡ false }
     ensures other_objects { is_met (Same false) (Obj 1 ∷ Obj 2 ∷ []) ≡ true }
-    ensures one_constant { is_met (Same true) (Const (Str (codes "a")) ∷ Const (Str (codes "a")) ∷ [])
+    ensures one_constant { is_met (Same true)
+        (Const (Str (codes "a")) ∷ Const (Str (codes "a")) ∷ [])
         ≡ true }
-    ensures two_constants { is_met (Same true) (Const (Str (codes "a")) ∷ Const (Class (codes "a")) ∷ [])
+    ensures two_constants { is_met (Same true)
+        (Const (Str (codes "a")) ∷ Const (Class (codes "a")) ∷ [])
         ≡ false }
     ensures first_case { chosen_case ((negsuc 1, 7) ∷ (pos 0, 8) ∷ []) 9 (negsuc 1) ≡ 7 }
     ensures second_case { chosen_case ((negsuc 1, 7) ∷ (pos 0, 8) ∷ []) 9 (pos 0) ≡ 8 }
@@ -108,7 +111,7 @@ pub fn conditions_are_met()
 /// Of what class a reference is, and who holds a field (JVMS 5.4.3.2 and 6.5).
 pub fn classes_are_known()
     ensures missing { (statics : Fields) →
-        class_of_reference (record { objects = []; statics = statics }) (Obj 0)
+        class_of_reference (no_objects statics) (Obj 0)
         ≡ Some (codes "java/lang/Object") }
     ensures class { (heap : Heap) (t : List ℕ) →
         class_of_reference heap (Const (Class t))
@@ -132,7 +135,8 @@ pub fn classes_are_known()
         ≡ false }
 {}
 
-/// What whole runs come to: entering a method, throws and their handlers, and the end (JVMS 2.6 and 2.10).
+/// What whole runs come to: entering a method, throws and their handlers, and the end (JVMS 2.6
+/// and 2.10).
 pub fn runs_are_shown()
     ensures two_places { enter (LongKind ∷ ReferenceKind ∷ []) (Flt 1 ∷ Obj 5 ∷ Obj 6 ∷ [])
         ≡ Long (pos 0) ∷ Int (pos 0) ∷ Obj 5 ∷ [] }
@@ -149,11 +153,13 @@ pub fn runs_are_shown()
         catcher (entry 0 9 1 ∷ entry 0 9 2 ∷ []) c_below_d 4 heap (Obj 0)
         ≡ Some 1 }
     ensures class_fits { (fields : Fields) →
-        catcher (catching (codes "C") 1 ∷ catching (codes "D") 2 ∷ []) c_below_d 0 (record { objects = new_instance (codes "D") ∷ []; statics = fields }) (Obj 0)
+        catcher (catching (codes "C") 1 ∷ catching (codes "D") 2 ∷ []) c_below_d 0
+        (record { objects = new_instance (codes "D") ∷ []; statics = fields }) (Obj 0)
         ≡ Some 2 }
     ensures handled { (heap : Heap) →
         run_of caught c_below_d (Int (pos 6) ∷ []) heap (throw_answer (Obj 8) heap ∷ []) 6
-        ≡ outcome (Some (Returned (Some (Obj 8)))) 0 (Int (pos 6) ∷ Int (pos 4) ∷ []) (seen (call_of Static) (Int (pos 6) ∷ Long (pos 0) ∷ []) heap heap []) }
+        ≡ outcome (Some (Returned (Some (Obj 8)))) 0 (Int (pos 6) ∷ Int (pos 4) ∷ [])
+        (seen (call_of Static) (Int (pos 6) ∷ Long (pos 0) ∷ []) heap heap []) }
     ensures uncaught { (heap : Heap) →
         run_of (uncaught) c_below_d (Int (pos 6) ∷ []) heap [] 9
         ≡ outcome (Some (Thrown (Const (Str (codes "s"))))) 7 (Int (pos 6) ∷ []) (before heap []) }
