@@ -1,0 +1,13 @@
+pub mod RunLemmas
+pub mod ViewLemmas
+pub mod ChainLemmas
+pub mod OutsideLemmas
+pub mod StepLemmas
+pub mod MovedLemmas
+pub mod HandlerLemmas
+pub mod ConditionLemmas
+pub mod SlotLemmas
+pub mod UnderLemmas
+pub mod FieldLemmas
+pub mod SimulationLemmas
+pub mod IndexMapLemmas

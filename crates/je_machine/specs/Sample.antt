@@ -1,0 +1,134 @@
+-- Small heaps, answers and methods, by which laws show what the machine does.
+use Rattle.std.specs.Prelude.{ℕ, ℤ, pos, List, [], ◌∷◌, Option, Some, None, codes}
+use Rattle.std.specs.FinMap.{empty}
+use Rattle.je_desc.specs.FieldType.{FieldType, Base}
+use Rattle.je_desc.specs.FieldType as types
+use Rattle.je_machine.specs.Content.{Member, Method, Str}
+use Rattle.je_machine.specs.Value.{IntKind, FloatKind, ReferenceKind, Value, Int, Long, Null, Obj, Const}
+use Rattle.je_machine.specs.Heap.{Object, Array, Heap, Fields, new_instance}
+use Rattle.je_machine.specs.Classes.{Classes}
+use Rattle.je_machine.specs.Action.{Action, Sort, Static, Invoke, FloatOperation}
+use Rattle.je_machine.specs.Outside.{Outside, Answer, Gives, Throws, Response, Threw}
+use Rattle.je_machine.specs.Operation.{Act, Push, Throw, Do, Load, Store, Increment, Goto, Return, Handler, Program}
+use Rattle.je_machine.specs.Step.{Ending, Outcome}
+
+-- ---- heaps of one to three objects, without events and answers
+
+abbrev pub objects_alone : List Object → Outside
+objects_alone objects =
+    record { heap = record { objects = objects; statics = empty }; events = []; answers = [] }
+
+abbrev pub one_object : Object → Outside
+one_object a = objects_alone (a ∷ [])
+
+abbrev pub two_objects : Object → Object → Outside
+two_objects a b = objects_alone (a ∷ b ∷ [])
+
+abbrev pub three_objects : Object → Object → Object → Outside
+three_objects a b c = objects_alone (a ∷ b ∷ c ∷ [])
+
+-- an array of one int
+abbrev pub array_of : List ℕ → ℤ → Object
+array_of type n = Array type (Int n ∷ [])
+
+abbrev pub bytes : Object
+bytes = array_of (codes "[B") (pos 5)
+
+-- an array of C, with null in it
+abbrev pub c_array : Object
+c_array = Array (codes "[LC;") (Null ∷ [])
+
+-- a new object of the class is thrown, and stands behind the other
+abbrev pub throws_new : Object → List ℕ → Response
+throws_new a class = Threw (Obj 1) (two_objects a (new_instance class))
+
+-- the type `int[]`
+abbrev pub ints : FieldType
+ints = types.Array (Base types.Int)
+
+abbrev pub no_objects : Fields → Heap
+no_objects statics = record { objects = []; statics = statics }
+
+-- with a NullPointerException alone
+abbrev pub null_thrown : Fields → Heap
+null_thrown statics = record {
+  objects = new_instance (codes "java/lang/NullPointerException") ∷ [];
+  statics = statics;
+}
+
+-- ---- classes: C is below D, and D holds the int f that is named in C
+
+abbrev pub c_below_d : Classes
+c_below_d = record {
+  below = (codes "C", codes "D") ∷ [];
+  holders = ((codes "C", codes "f", codes "I"), codes "D")
+      ∷ ((codes "C", codes "f", codes "I"), codes "E") ∷ [];
+}
+
+-- ---- calls and answers
+
+abbrev pub before : Heap → List Answer → Outside
+before heap answers = record { heap = heap; events = []; answers = answers }
+
+-- the outside that saw one action, with this heap after it and these answers left
+abbrev pub seen : Action → List Value → Heap → Heap → List Answer → Outside
+seen action operands heap after answers = record {
+  heap = after;
+  events = record { action = action; operands = operands; heap = heap } ∷ [];
+  answers = answers;
+}
+
+abbrev pub value_answer : Value → Heap → Answer
+value_answer value heap = record { reply = Gives value; heap = heap }
+
+abbrev pub throw_answer : Value → Heap → Answer
+throw_answer reference heap = record { reply = Throws reference; heap = heap }
+
+-- a method `int C.m(int, long)`
+abbrev pub call_of : Sort → Action
+call_of sort =
+    Invoke sort (Member Method (codes "C") (codes "m") (codes "(IJ)I"))
+    (record { params = Base types.Int ∷ Base types.Long ∷ []; result = Some (Base types.Int) })
+
+-- its arguments, without a target
+abbrev pub arguments : List Value
+arguments = Int (pos 3) ∷ Long (pos 4) ∷ []
+
+-- fadd
+abbrev pub float_sum : Action
+float_sum = FloatOperation 98 (FloatKind ∷ FloatKind ∷ []) FloatKind
+
+-- ---- methods
+
+-- an entry that catches all
+abbrev pub entry : ℕ → ℕ → ℕ → Handler
+entry start end target = record { start = start; end = end; target = target; catch_class = None }
+
+-- an entry for the first place that catches a class
+abbrev pub catching : List ℕ → ℕ → Handler
+catching class target = record { start = 0; end = 1; target = target; catch_class = Some class }
+
+-- sets a local variable, and calls with a value more on the stack; what is thrown it returns
+abbrev pub caught : Program
+caught = record {
+  parameters = IntKind ∷ [];
+  operations = Do (Push (Int (pos 4))) ∷ Store IntKind 1 ∷ Load IntKind 0 ∷ Do (Push (Long (pos 0)))
+      ∷ Do (Act (call_of Static)) ∷ Return None ∷ Return (Some ReferenceKind) ∷ [];
+  handlers = entry 4 5 6 ∷ [];
+}
+
+-- throws a string behind the range of its only handler
+abbrev pub uncaught : Program
+uncaught = record {
+  parameters = IntKind ∷ [];
+  operations = Do (Push (Const (Str (codes "s")))) ∷ Do Throw ∷ [];
+  handlers = entry 0 1 0 ∷ [];
+}
+
+-- counts for ever
+abbrev pub counter : Program
+counter = record { parameters = []; operations = Increment 0 (pos 1) ∷ Goto 0 ∷ []; handlers = [] }
+
+abbrev pub outcome : Option Ending → ℕ → List Value → Outside → Outcome
+outcome ending left locals outside =
+    record { ending = ending; left = left; locals = locals; outside = outside }

@@ -1,0 +1,27 @@
+//! The machine of methods: values, heap, actions, runs and views, as definitions with their laws.
+//!
+//! Stands on je_base and je_desc. Has no code of its own: its functions are laws over the
+//! definitions. Offers above: what each instruction does, and what a longer bound of a run shows.
+#![tactic(auto)]
+
+mod acting;
+mod actions;
+mod arithmetic;
+mod fields;
+mod handlers;
+mod machine;
+mod operations;
+mod runs;
+mod shown;
+
+pub use acting::{answers_are_taken, arrays_are_used, objects_are_made};
+pub use actions::actions_do;
+pub use arithmetic::{ints_are_computed, ints_are_shifted, longs_are_computed};
+pub use fields::{object_fields, static_fields};
+pub use handlers::ways_of_throws;
+pub use machine::{machine_runs, moved_programs};
+pub use operations::{inverse_conditions, own_slots, relocation, under_operands};
+pub use runs::{agreement, longer_bounds, simulation, stretches, views_begin_views};
+pub use shown::{
+    classes_are_known, conditions_are_met, runs_are_shown, values_are_admitted, values_are_copied,
+};
