@@ -1,4 +1,5 @@
 pub mod BytesLemmas
+pub mod PartsLemmas
 pub mod TextLemmas
 pub mod EncodingLemmas
 pub mod ShownLemmas

@@ -1,4 +1,5 @@
 pub mod Bytes
+pub mod Parts
 pub mod Count
 pub mod Text
 pub mod Units

@@ -1,7 +1,8 @@
 -- What holds of all of several lists, one after the other.
 use Rattle.std.proofs.Common.{List, [], ◌∷◌, ◌++◌}
 use Rattle.std.specs.List.{AllByRecursion}
-use Rattle.je_class.specs.FileParts.{Part, each}
+use Rattle.je_base.specs.Parts.{each}
+use Rattle.je_class.specs.FileParts.{Part}
 
 pub all_split : {A : Type 0} (P : A → Type 0) (xs ys : List A) → AllByRecursion P (xs ++ ys) → AllByRecursion P xs × AllByRecursion P ys
 all_split P [] ys h = (tt, h)

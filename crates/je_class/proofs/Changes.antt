@@ -6,7 +6,8 @@ use Rattle.je_consts.specs.declared.place.Place.{Place}
 use Rattle.je_class.specs.declared.member.Attribute.{Attribute}
 use Rattle.je_class.specs.declared.member.Member.{Member}
 use Rattle.je_class.specs.Class.{Class, changed_at, with_bytes, with_attribute, with_method_attribute}
-use Rattle.je_class.specs.FileParts.{Part, IsSoundPart, each, table_parts, interface_parts, attribute_parts, field_parts, method_parts, IsSound}
+use Rattle.je_base.specs.Parts.{IsSoundPart, each, table_parts}
+use Rattle.je_class.specs.FileParts.{class_format, Part, interface_parts, attribute_parts, field_parts, method_parts, IsSound}
 use Rattle.je_class.proofs.Alls.{all_split, all_join}
 
 pub changed_at-slice_set : {A : Type 0} (at : ℕ) (f : A → A) (xs : List A) (x : A) → slice_get xs at ≡ Some x → changed_at at f xs ≡ slice_set xs at (f x)
@@ -31,31 +32,31 @@ module _ {A : Type 0} (P : Part → Type 0) (parts : A → List Part) (f : A →
 
 module _ (consts : List Place) where
   abbrev Sound : List Part → Type 0
-  Sound parts = AllByRecursion (IsSoundPart consts) parts
+  Sound parts = AllByRecursion (IsSoundPart class_format) parts
 
   sound_table : {A : Type 0} (parts : A → List Part) (f : A → A) → ((x : A) → Sound (parts x) → Sound (parts (f x))) → (at : ℕ) (xs : List A)
       → Sound (table_parts parts xs) → Sound (table_parts parts (changed_at at f xs))
   sound_table parts f keeps at xs h =
       let count : length (changed_at at f xs) < 2 ^ 16 = rw (length-changed_at at f xs) h.0.0 in
-      ((count, tt), each-changed_at (IsSoundPart consts) parts f keeps at xs h.1)
+      ((count, tt), each-changed_at (IsSoundPart class_format) parts f keeps at xs h.1)
 
-  sound_method : (at : ℕ) (bytes : List ℕ) → length bytes < 2 ^ 32 → (m : Member) → Sound (method_parts m) → Sound (method_parts (with_attribute at bytes m))
+  sound_method : (at : ℕ) (bytes : List ℕ) → length bytes < 2 ^ 32 → (m : Member) → Sound (method_parts consts m) → Sound (method_parts consts (with_attribute at bytes m))
   sound_method at bytes lt m h =
-      (h.0, (h.1.0, (h.1.1.0, sound_table attribute_parts (with_bytes bytes) (λ a s. (s.0, ((lt, tt), (tt, tt)))) at m.attributes h.1.1.1)))
+      (h.0, (h.1.0, (h.1.1.0, sound_table (attribute_parts consts) (with_bytes bytes) (λ a s. (s.0, ((lt, tt), (tt, tt)))) at m.attributes h.1.1.1)))
 
 pub IsSound-with_method_attribute : (method attribute : ℕ) (bytes : List ℕ) (c : Class) → length bytes < 2 ^ 32 → IsSound c → IsSound (with_method_attribute method attribute bytes c)
 IsSound-with_method_attribute method attribute bytes c lt sound =
     let h = sound.parts in
-    let P = IsSoundPart c.consts in
-    let interfaces = table_parts interface_parts c.interfaces in
-    let fields = table_parts field_parts c.fields in
-    let methods = table_parts method_parts c.methods in
-    let attributes = table_parts attribute_parts c.attributes in
-    let changed = table_parts method_parts (changed_at method (with_attribute attribute bytes) c.methods) in
+    let P = IsSoundPart class_format in
+    let interfaces = table_parts (interface_parts c.consts) c.interfaces in
+    let fields = table_parts (field_parts c.consts) c.fields in
+    let methods = table_parts (method_parts c.consts) c.methods in
+    let attributes = table_parts (attribute_parts c.consts) c.attributes in
+    let changed = table_parts (method_parts c.consts) (changed_at method (with_attribute attribute bytes) c.methods) in
     let a = all_split P interfaces (fields ++ (methods ++ attributes)) h.1.1.1.1.1.1.1 in
     let b = all_split P fields (methods ++ attributes) a.1 in
     let d = all_split P methods attributes b.1 in
-    let new = sound_table c.consts method_parts (with_attribute attribute bytes) (sound_method c.consts attribute bytes lt) method c.methods d.0 in
+    let new = sound_table c.consts (method_parts c.consts) (with_attribute attribute bytes) (sound_method c.consts attribute bytes lt) method c.methods d.0 in
     let rest = all_join P interfaces (fields ++ (changed ++ attributes)) a.0 (all_join P fields (changed ++ attributes) b.0 (all_join P changed attributes new d.1)) in
     record { parts = (h.0, (h.1.0, (h.1.1.0, (h.1.1.1.0, (h.1.1.1.1.0, (h.1.1.1.1.1.0, (h.1.1.1.1.1.1.0, rest))))))) }
 

@@ -1,5 +1,5 @@
 -- A class file whose constant pool has grown.
-use Rattle.std.proofs.Common.{◌≡◌, ℕ, ◌^◌, ◌<◌, ◌⊎◌, List, [], ◌∷◌, length, Option, Some, None, refl, inl, inr}
+use Rattle.std.proofs.Common.{◌≡◌, ℕ, ◌^◌, ◌<◌, ◌⊎◌, List, [], ◌∷◌, ◌++◌, length, Option, Some, None, refl, inl, inr}
 use Rattle.std.proofs.lemmas.List.Elements.{All-from_recursion, recursion_from_All}
 use Rattle.std.specs.Prelude.{All, IsSome, IsSomeAnd, option_and_then}
 use Rattle.std.specs.List.{AllByRecursion}
@@ -12,9 +12,11 @@ use Rattle.je_desc.specs.Names.{IsClassName}
 use Rattle.je_desc.specs.Descriptor.{FieldDescriptor}
 use Rattle.je_class.specs.declared.member.Member.{Member}
 use Rattle.je_class.specs.Class.{Class, IsClassIndex, IsTextIndex, IsDescriptorOf, with_code}
-use Rattle.je_class.specs.FileParts.{Test, IsMagic, IsVersion, NamesClass, NamesSuper, NamesText, NamesAttribute, DescribesField, DescribesMethod, Passes, Part, U2, U4, Run, Pool, IsSoundPart, class_parts, IsSound}
+use Rattle.je_base.specs.Parts.{U2, IsSoundPart, each, table_parts}
+use Rattle.je_class.specs.FileParts.{NamesClass, NamesSuper, class_format, Part, interface_parts, attribute_parts, field_parts, method_parts, IsSound}
 use Rattle.je_class.specs.Sound.{IsSoundAttribute, IsSoundInterface, IsSoundMember, IsSoundField, IsSoundMethod}
 use Rattle.je_class.specs.Grown.{IsSameText, IsSameClass, IsSameAttribute, IsSameMember, NamesStay}
+use Rattle.je_class.proofs.Alls.{all_split, all_join}
 use Rattle.je_class.proofs.Changes.{IsSound-with_method_attribute}
 use Rattle.je_class.proofs.SoundParts.{HasSoundParts-sound}
 
@@ -49,6 +51,13 @@ all_mapped P Q gives (x ∷ xs) h = (gives x h.0, all_mapped P Q gives xs h.1)
 all_same : {A : Type 0} (P Q : A → Type 0) → ((x : A) → P x → Q x) → (xs : List A) → All P xs → All Q xs
 all_same P Q gives xs h = All-from_recursion Q xs (all_mapped P Q gives xs (recursion_from_All P xs h))
 
+abbrev Sound : List Part → Type 0
+Sound parts = AllByRecursion (IsSoundPart class_format) parts
+
+-- the tables of a class file, whose indexes are of this constant pool
+abbrev tables_parts : List Place → Class → List Part
+tables_parts consts c = table_parts (interface_parts consts) c.interfaces ++ (table_parts (field_parts consts) c.fields ++ (table_parts (method_parts consts) c.methods ++ table_parts (attribute_parts consts) c.attributes))
+
 module _ (old new : List Place) (keeps : Keeps old new) where
   text_stays : (i : ℕ) → Stays (text_at old i) (text_at new i)
   text_stays i = stays_then text_of text_of (const_at old i) (const_at new i) (keeps.content i) (λ c t e. e)
@@ -68,22 +77,51 @@ module _ (old new : List Place) (keeps : Keeps old new) where
   text_index_stays : (i : ℕ) → IsTextIndex old i → IsTextIndex new i
   text_index_stays i h = stays_some (text_at old i) (text_at new i) (text_stays i) h
 
-  passes_still : (test : Test) → Passes old test → Passes new test
-  passes_still (IsMagic number) h = h
-  passes_still (IsVersion major) h = h
-  passes_still (NamesClass i) h = class_index_stays i h
-  passes_still (NamesSuper i) (inl h) = inl h
-  passes_still (NamesSuper i) (inr h) = inr (class_index_stays i h)
-  passes_still (NamesText i) h = text_index_stays i h
-  passes_still (NamesAttribute i) h = text_index_stays i h
-  passes_still (DescribesField i) h = stays_and FieldDescriptor (text_at old i) (text_at new i) (text_stays i) h
-  passes_still (DescribesMethod access i) h = stays_and (IsDescriptorOf access) (text_at old i) (text_at new i) (text_stays i) h
+  super_index_stays : (i : ℕ) → (i ≡ 0) ⊎ IsClassIndex old i → (i ≡ 0) ⊎ IsClassIndex new i
+  super_index_stays i (inl h) = inl h
+  super_index_stays i (inr h) = inr (class_index_stays i h)
 
-  sound_still : (part : Part) → IsSoundPart old part → IsSoundPart new part
-  sound_still (U2 number tests) h = (h.0, all_mapped (Passes old) (Passes new) passes_still tests h.1)
-  sound_still (U4 number tests) h = (h.0, all_mapped (Passes old) (Passes new) passes_still tests h.1)
-  sound_still (Run bytes) h = tt
-  sound_still (Pool places) h = h
+  -- ---- parts
+
+  still_each : {A : Type 0} (before after : A → List Part) → ((x : A) → Sound (before x) → Sound (after x)) → (xs : List A) → Sound (each before xs) → Sound (each after xs)
+  still_each before after gives [] h = tt
+  still_each before after gives (x ∷ xs) h =
+      let s = all_split (IsSoundPart class_format) (before x) (each before xs) h in
+      all_join (IsSoundPart class_format) (after x) (each after xs) (gives x s.0) (still_each before after gives xs s.1)
+
+  still_interface : (i : ℕ) → Sound (interface_parts old i) → Sound (interface_parts new i)
+  still_interface i h = ((h.0.0, (class_index_stays i h.0.1.0, tt)), tt)
+
+  still_attribute : (a : Attribute) → Sound (attribute_parts old a) → Sound (attribute_parts new a)
+  still_attribute a h = ((h.0.0, (text_index_stays a.name h.0.1.0, tt)), h.1)
+
+  still_field : (m : Member) → Sound (field_parts old m) → Sound (field_parts new m)
+  still_field m h =
+      let d = h.1.1.0 in
+      let describes = stays_and FieldDescriptor (text_at old m.descriptor) (text_at new m.descriptor) (text_stays m.descriptor) d.1.1.0 in
+      let attributes = still_each (attribute_parts old) (attribute_parts new) still_attribute m.attributes h.1.1.1.1 in
+      (h.0, ((h.1.0.0, (text_index_stays m.name h.1.0.1.0, tt)), ((d.0, (text_index_stays m.descriptor d.1.0, (describes, tt))), (h.1.1.1.0, attributes))))
+
+  still_method : (m : Member) → Sound (method_parts old m) → Sound (method_parts new m)
+  still_method m h =
+      let d = h.1.1.0 in
+      let describes = stays_and (IsDescriptorOf m.access) (text_at old m.descriptor) (text_at new m.descriptor) (text_stays m.descriptor) d.1.1.0 in
+      let attributes = still_each (attribute_parts old) (attribute_parts new) still_attribute m.attributes h.1.1.1.1 in
+      (h.0, ((h.1.0.0, (text_index_stays m.name h.1.0.1.0, tt)), ((d.0, (text_index_stays m.descriptor d.1.0, (describes, tt))), (h.1.1.1.0, attributes))))
+
+  still_tables : (c : Class) → Sound (tables_parts old c) → Sound (tables_parts new c)
+  still_tables c h =
+      let P = IsSoundPart class_format in
+      let a = all_split P (table_parts (interface_parts old) c.interfaces) (table_parts (field_parts old) c.fields ++ (table_parts (method_parts old) c.methods ++ table_parts (attribute_parts old) c.attributes)) h in
+      let b = all_split P (table_parts (field_parts old) c.fields) (table_parts (method_parts old) c.methods ++ table_parts (attribute_parts old) c.attributes) a.1 in
+      let d = all_split P (table_parts (method_parts old) c.methods) (table_parts (attribute_parts old) c.attributes) b.1 in
+      let interfaces : Sound (table_parts (interface_parts new) c.interfaces) = (a.0.0, still_each (interface_parts old) (interface_parts new) still_interface c.interfaces a.0.1) in
+      let fields : Sound (table_parts (field_parts new) c.fields) = (b.0.0, still_each (field_parts old) (field_parts new) still_field c.fields b.0.1) in
+      let methods : Sound (table_parts (method_parts new) c.methods) = (d.0.0, still_each (method_parts old) (method_parts new) still_method c.methods d.0.1) in
+      let attributes : Sound (table_parts (attribute_parts new) c.attributes) = (d.1.0, still_each (attribute_parts old) (attribute_parts new) still_attribute c.attributes d.1.1) in
+      all_join P (table_parts (interface_parts new) c.interfaces) (table_parts (field_parts new) c.fields ++ (table_parts (method_parts new) c.methods ++ table_parts (attribute_parts new) c.attributes)) interfaces
+      (all_join P (table_parts (field_parts new) c.fields) (table_parts (method_parts new) c.methods ++ table_parts (attribute_parts new) c.attributes) fields
+      (all_join P (table_parts (method_parts new) c.methods) (table_parts (attribute_parts new) c.attributes) methods attributes))
 
   -- ---- names
 
@@ -109,8 +147,11 @@ with_pool new c = record c { consts = new }
 
 IsSound-with_pool : (c : Class) (new : List Place) → IsPool new → Keeps c.consts new → IsSound c → IsSound (with_pool new c)
 IsSound-with_pool c new pool keeps sound =
-    let h = all_mapped (IsSoundPart c.consts) (IsSoundPart new) (sound_still c.consts new keeps) (class_parts c) sound.parts in
-    record { parts = (h.0, (h.1.0, (h.1.1.0, (pool, h.1.1.1.1)))) }
+    let h = sound.parts in
+    let own = h.1.1.1.1 in
+    let this : Sound (U2 c.this_class (NamesClass new c.this_class ∷ []) ∷ []) = ((own.1.0.0, (class_index_stays c.consts new keeps c.this_class own.1.0.1.0, tt)), tt) in
+    let super : Sound (U2 c.super_class (NamesSuper new c.super_class ∷ []) ∷ []) = ((own.1.1.0.0, (super_index_stays c.consts new keeps c.super_class own.1.1.0.1.0, tt)), tt) in
+    record { parts = (h.0, (h.1.0, (h.1.1.0, (pool, (own.0, (this.0, (super.0, still_tables c.consts new keeps c own.1.1.1))))))) }
 
 pub IsSound-with_code : (method attribute : ℕ) (bytes : List ℕ) (new : List Place) (c : Class) → length bytes < 2 ^ 32 → IsPool new → Keeps c.consts new → IsSound c → IsSound (with_code method attribute bytes new c)
 IsSound-with_code method attribute bytes new c lt pool keeps sound =

@@ -5,10 +5,8 @@ pub mod Sounds
 pub mod Zips
 pub mod Comes
 pub mod Tables
-pub mod OneWay
 pub mod OneClass
 pub mod Same
-pub mod Free
 pub mod ReadLemmas
 pub mod OneAnswer
 pub mod SoundParts

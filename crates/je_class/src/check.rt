@@ -2,11 +2,11 @@
 
 ghost use Rattle.std.specs.Prelude.{◌≡◌, ◌⊎◌, ◌↔◌, IsTrue, IsSomeAnd, IfNone, IfSome};
 ghost use Rattle.std.specs.List.{AllByRecursion};
+ghost use Rattle.je_base.specs.Parts.{FailsFirst};
 ghost use Rattle.je_consts.specs.Pool.{text_at};
 ghost use Rattle.je_desc.specs.Descriptor.{FieldDescriptor};
 ghost use Rattle.je_class.specs.Class.{IsClassIndex, IsTextIndex, IsDescriptorOf};
-ghost use Rattle.je_class.specs.FileParts.{Passes};
-ghost use Rattle.je_class.specs.Faults.{FailsFirst};
+ghost use Rattle.je_class.specs.FileParts.{Passes, class_format};
 ghost use Rattle.je_class.specs.Reading.{Reads, tests_of, index_parts};
 
 use crate::fault::ClassFault;
@@ -96,8 +96,8 @@ fn unless(passes: bool, fault: ClassFault) -> Option<ClassFault>
 
 /// The fault of the index at an offset, where it does not name what it has to.
 fn fault_of(consts: &Consts, names: Sought, index: u16, at: usize) -> Option<ClassFault>
-    ensures none { IfNone result (AllByRecursion (Passes consts.now) (tests_of names index)) }
-    ensures some { IfSome result (FailsFirst consts.now at (tests_of names index)) }
+    ensures none { IfNone result (AllByRecursion Passes (tests_of consts.now names index)) }
+    ensures some { IfSome result (FailsFirst class_format at (tests_of consts.now names index)) }
 {
     match names {
         Sought::Class => unless(names_class(consts, index), ClassFault::BadIndex(at)),
@@ -132,7 +132,7 @@ pub(crate) fn index_at(
     bytes: &[u8],
     at: usize,
 ) -> Result<(u16, usize), ClassFault>
-    ensures { Reads (λ x. x) bytes.now consts.now at (index_parts names) result }
+    ensures { Reads (λ x. x) bytes.now at (index_parts consts.now names) result }
 {
     let (index, end) = u16_at(bytes, at)?;
     match fault_of(consts, names, index, at) {

@@ -1,17 +1,40 @@
 //! Laws of the bytes and of what indexes name, over all class files.
 
 ghost use Rattle.std.specs.Prelude.{◌≡◌, ℕ, ◌≤◌, List, length};
+ghost use Rattle.je_base.specs.Parts.{OneWay};
 ghost use Rattle.je_consts.specs.declared.place.Place.{Place};
 ghost use Rattle.je_consts.specs.Adding.{Keeps};
 ghost use Rattle.je_class.specs.declared.fault.ClassFault.{ClassFault};
 ghost use Rattle.je_class.specs.Class.{Class};
 ghost use Rattle.je_class.specs.ClassBytes.{ClassBytes};
 ghost use Rattle.je_class.specs.Faults.{FirstFault};
-ghost use Rattle.je_class.specs.FileParts.{IsSound};
+ghost use Rattle.je_class.specs.FileParts.{Test, class_format, IsSound};
 ghost use Rattle.je_class.specs.Grown.{NamesStay};
 
-use je_base::one_reading;
+use je_base::{Parted, one_way};
 use je_consts::one_pool;
+
+/// The parts of a class file (JVMS 4.1).
+pub(crate) struct ClassParts;
+
+impl Parted for ClassParts {
+    ghost Test = { Test };
+
+    ghost Value = { List Place };
+
+    ghost Fault = { ClassFault };
+
+    ghost format = { class_format };
+}
+
+/// What stands at an offset of a class file is one way.
+pub(crate) fn one_class_way()
+    ensures { OneWay class_format }
+{
+    // The law of the layer below that the proof stands on.
+    one_pool();
+    one_way::<ClassParts>();
+}
 
 /// Bytes are one class file or have one first fault.
 pub fn one_class()
@@ -22,9 +45,8 @@ pub fn one_class()
     ensures one_fault { (bytes : List ℕ) (d e : ClassFault) →
         FirstFault bytes d → FirstFault bytes e → d ≡ e }
 {
-    // The laws of the layers below that the proof stands on.
-    one_reading();
-    one_pool();
+    // The law that the proof stands on.
+    one_class_way();
 }
 
 /// What the indexes of a class file name stays as it is while its constant pool grows.

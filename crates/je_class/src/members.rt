@@ -2,7 +2,8 @@
 //! 4.7).
 
 ghost use Rattle.std.specs.Prelude.{◌≡◌};
-ghost use Rattle.je_class.specs.FileParts.{table_parts, interface_parts, attribute_parts};
+ghost use Rattle.je_base.specs.Parts.{table_parts};
+ghost use Rattle.je_class.specs.FileParts.{interface_parts, attribute_parts};
 ghost use Rattle.je_class.specs.Reading.{Reads, descriptor_of, parts_of_kind};
 
 use crate::check::{Sought, index_at};
@@ -37,7 +38,7 @@ pub(crate) fn interfaces_at(
     bytes: &[u8],
     at: usize,
 ) -> Result<(Vec<u16>, usize), ClassFault>
-    ensures { Reads (λ x. (x.0.items, x.1)) bytes.now consts.now at (table_parts interface_parts) result }
+    ensures { Reads (λ x. (x.0.items, x.1)) bytes.now at (table_parts (interface_parts consts.now)) result }
 {
     let (count, start) = u16_at(bytes, at)?;
     let mut interfaces = Vec::new(alloc);
@@ -56,7 +57,7 @@ fn attribute_at(
     bytes: &[u8],
     at: usize,
 ) -> Result<(Attribute, usize), ClassFault>
-    ensures { Reads (λ x. x) bytes.now consts.now at attribute_parts result }
+    ensures { Reads (λ x. x) bytes.now at (attribute_parts consts.now) result }
 {
     let (name, at) = index_at(consts, Sought::AttributeName, bytes, at)?;
     let (len, at) = u32_at(bytes, at)?;
@@ -72,7 +73,7 @@ pub(crate) fn attributes_at(
     bytes: &[u8],
     at: usize,
 ) -> Result<(Vec<Attribute>, usize), ClassFault>
-    ensures { Reads (λ x. (x.0.items, x.1)) bytes.now consts.now at (table_parts attribute_parts) result }
+    ensures { Reads (λ x. (x.0.items, x.1)) bytes.now at (table_parts (attribute_parts consts.now)) result }
 {
     let (count, start) = u16_at(bytes, at)?;
     let mut attributes = Vec::new(alloc);
@@ -92,7 +93,7 @@ fn member_at(
     bytes: &[u8],
     at: usize,
 ) -> Result<(Member, usize), ClassFault>
-    ensures { Reads (λ x. x) bytes.now consts.now at (parts_of_kind kind) result }
+    ensures { Reads (λ x. x) bytes.now at (parts_of_kind consts.now kind) result }
 {
     let (access, at) = u16_at(bytes, at)?;
     let (name, at) = index_at(consts, Sought::Text, bytes, at)?;
@@ -115,7 +116,7 @@ pub(crate) fn members_at(
     bytes: &[u8],
     at: usize,
 ) -> Result<(Vec<Member>, usize), ClassFault>
-    ensures { Reads (λ x. (x.0.items, x.1)) bytes.now consts.now at (table_parts (parts_of_kind kind)) result }
+    ensures { Reads (λ x. (x.0.items, x.1)) bytes.now at (table_parts (parts_of_kind consts.now kind)) result }
 {
     let (count, start) = u16_at(bytes, at)?;
     let mut members = Vec::new(alloc);

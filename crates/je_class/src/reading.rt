@@ -1,23 +1,24 @@
 //! A class file, read from its bytes (JVMS 4.1).
 
 ghost use Rattle.std.specs.Prelude.{◌≡◌, ℕ, ◌≤◌, ◌⊎◌, ◌↔◌, ◌∷◌, [], List, length, IsTrue, IfOk, IfErr, OnOk, MatchResult};
-ghost use Rattle.je_consts.specs.declared.place.Place.{Place};
+ghost use Rattle.je_base.specs.Parts.{Nested};
 ghost use Rattle.je_class.specs.declared.fault.ClassFault.{ClassFault};
 ghost use Rattle.je_class.specs.Class.{Class};
 ghost use Rattle.je_class.specs.ClassBytes.{ClassBytes};
-ghost use Rattle.je_class.specs.FileParts.{Pool};
-ghost use Rattle.je_class.specs.Faults.{pool_fault, FirstFault};
+ghost use Rattle.je_class.specs.FileParts.{pool_fault};
+ghost use Rattle.je_class.specs.Faults.{FirstFault};
 ghost use Rattle.je_class.specs.InMemory.{class_of_parts};
 ghost use Rattle.je_class.specs.Reading.{Reads, ReadsClass, start_parts, own_parts, lists_parts};
 
 use crate::check::{Sought, index_at};
 use crate::class_file::ClassFile;
 use crate::fault::{ClassFault, MOST_BYTES};
+use crate::laws::one_class_way;
 use crate::member::{Attribute, Member};
 use crate::members::{Kind, attributes_at, interfaces_at, members_at};
 use crate::parts::Parts;
-use je_base::{one_reading, u16_at, u32_at};
-use je_consts::{ConstFault, Consts, one_pool};
+use je_base::{u16_at, u32_at};
+use je_consts::{ConstFault, Consts};
 use std::alloc::Global;
 
 /// The first number of each class file.
@@ -32,8 +33,7 @@ fn is_version(major: u16) -> bool
 
 /// The minor and the major version, behind the magic, and the offset after them.
 fn start_at(bytes: &[u8]) -> Result<((u16, u16), usize), ClassFault>
-    ensures { (consts : List Place) →
-        Reads (λ x. ((MAGIC, x.0.0, x.0.1), x.1)) bytes.now consts 0 start_parts result }
+    ensures { Reads (λ x. ((MAGIC, x.0.0, x.0.1), x.1)) bytes.now 0 start_parts result }
 {
     let (magic, at) = u32_at(bytes, 0)?;
     if magic != MAGIC {
@@ -60,7 +60,7 @@ fn pool_fault(fault: ConstFault) -> ClassFault
 
 fn pool_at(alloc: Global, bytes: &[u8], at: usize) -> Result<(Consts, usize), ClassFault>
     requires { at ≤ length bytes.now }
-    ensures { (consts : List Place) → Reads (λ x. x) bytes.now consts at (λ places. Pool places ∷ []) result }
+    ensures { Reads (λ x. x) bytes.now at (λ places. Nested places ∷ []) result }
 {
     match Consts::read(alloc, bytes, at) {
         Ok((places, end)) => Ok((places, end)),
@@ -70,7 +70,7 @@ fn pool_at(alloc: Global, bytes: &[u8], at: usize) -> Result<(Consts, usize), Cl
 
 /// The access flags, and the indexes of the class and of its super class.
 fn own_at(consts: &Consts, bytes: &[u8], at: usize) -> Result<((u16, u16, u16), usize), ClassFault>
-    ensures { Reads (λ x. x) bytes.now consts.now at own_parts result }
+    ensures { Reads (λ x. x) bytes.now at (own_parts consts.now) result }
 {
     let (access, at) = u16_at(bytes, at)?;
     let (this_class, at) = index_at(consts, Sought::Class, bytes, at)?;
@@ -87,7 +87,7 @@ fn lists_at(
     bytes: &[u8],
     at: usize,
 ) -> Result<(Lists, usize), ClassFault>
-    ensures { Reads (λ x. ((x.0.0.items, x.0.1.items, x.0.2.items, x.0.3.items), x.1)) bytes.now consts.now at lists_parts result }
+    ensures { Reads (λ x. ((x.0.0.items, x.0.1.items, x.0.2.items, x.0.3.items), x.1)) bytes.now at (lists_parts consts.now) result }
 {
     let (interfaces, at) = interfaces_at(alloc, consts, bytes, at)?;
     let (fields, at) = members_at(alloc, consts, Kind::Fields, bytes, at)?;
@@ -148,9 +148,8 @@ pub fn read_class(alloc: Global, bytes: &[u8]) -> Result<ClassFile, ClassFault>
     ensures exact { (d : ClassFault) → FirstFault bytes.now d →
         MatchResult result (λ _. ⊥) (λ e. (e ≡ ClassFault.Memory) ⊎ (e ≡ d)) }
 {
-    // The laws of the layers below that the proof stands on.
-    one_reading();
-    one_pool();
+    // The law that the proof stands on.
+    one_class_way();
 
     if bytes.len() > MOST_BYTES {
         return Err(ClassFault::TooLong);

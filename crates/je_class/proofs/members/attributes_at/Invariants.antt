@@ -3,4 +3,4 @@ use Rattle.je_class.proofs.Tables.{Stand}
 use Rattle.je_class.proofs.members.attributes_at.Given as goal
 
 abbrev pub invariant-loop : goal.invariant-loop
-invariant-loop l = Stand l.bytes l.consts l.at attribute_parts l.count l.attributes.items l.counter l.next
+invariant-loop l = Stand l.bytes l.at (attribute_parts l.consts) l.count l.attributes.items l.counter l.next

@@ -13,11 +13,11 @@ returns-in_err-count c =
 pub returns-in_err-index : goal.returns-in_err-index
 returns-in_err-index c =
     let p = err_from_is_err_and c.from_residual-in_err-index.result c.from_residual-in_err-index.ensures.1 in
-    rw (p.1, p.2) (or_memory c.in_err-index.ensures (λ h. table_stops interface_parts c.loop.interfaces.items h.0 c.loop.invariant c.loop-test.true h.1))
+    rw (p.1, p.2) (or_memory c.in_err-index.ensures (λ h. table_stops (interface_parts c.args.consts.now) c.loop.interfaces.items h.0 c.loop.invariant c.loop-test.true h.1))
 
 pub loop-preserved : goal.loop-preserved
 loop-preserved c =
-    rw c.in_ok-push.ensures.items (table_more interface_parts c.loop.interfaces.items c.in_ok-index.index c.loop.invariant c.in_ok-index.ensures)
+    rw c.in_ok-push.ensures.items (table_more (interface_parts c.args.consts.now) c.loop.interfaces.items c.in_ok-index.index c.loop.invariant c.in_ok-index.ensures)
 
 pub returns : goal.returns
-returns c = table_ends interface_parts c.loop.interfaces.items c.loop.invariant (omega arith)
+returns c = table_ends (interface_parts c.args.consts.now) c.loop.interfaces.items c.loop.invariant (omega arith)

@@ -3,4 +3,4 @@ use Rattle.je_class.proofs.Tables.{Stand}
 use Rattle.je_class.proofs.members.interfaces_at.Given as goal
 
 abbrev pub invariant-loop : goal.invariant-loop
-invariant-loop l = Stand l.bytes l.consts l.at interface_parts l.count l.interfaces.items l.counter l.next
+invariant-loop l = Stand l.bytes l.at (interface_parts l.consts) l.count l.interfaces.items l.counter l.next

@@ -13,11 +13,11 @@ returns-in_err-count c =
 pub returns-in_err-member : goal.returns-in_err-member
 returns-in_err-member c =
     let p = err_from_is_err_and c.from_residual-in_err-member.result c.from_residual-in_err-member.ensures.1 in
-    rw (p.1, p.2) (or_memory c.in_err-member.ensures (λ h. table_stops (parts_of_kind c.args.kind) c.loop.members.items h.0 c.loop.invariant c.loop-test.true h.1))
+    rw (p.1, p.2) (or_memory c.in_err-member.ensures (λ h. table_stops (parts_of_kind c.args.consts.now c.args.kind) c.loop.members.items h.0 c.loop.invariant c.loop-test.true h.1))
 
 pub loop-preserved : goal.loop-preserved
 loop-preserved c =
-    rw c.in_ok-push.ensures.items (table_more (parts_of_kind c.args.kind) c.loop.members.items c.in_ok-member.member c.loop.invariant c.in_ok-member.ensures)
+    rw c.in_ok-push.ensures.items (table_more (parts_of_kind c.args.consts.now c.args.kind) c.loop.members.items c.in_ok-member.member c.loop.invariant c.in_ok-member.ensures)
 
 pub returns : goal.returns
-returns c = table_ends (parts_of_kind c.args.kind) c.loop.members.items c.loop.invariant (omega arith)
+returns c = table_ends (parts_of_kind c.args.consts.now c.args.kind) c.loop.members.items c.loop.invariant (omega arith)
