@@ -1,3 +1,5 @@
+ghost use Rattle.std.specs.Prelude.{◌≡◌, IfOk};
+
 use super::*;
 use je_base::Text;
 use je_consts::Const;
@@ -60,7 +62,9 @@ fn with_tables(rt: &HostRuntime) -> Result<Vec<u8>, Fail> {
     Ok(bytes)
 }
 
-fn text(rt: &HostRuntime, bytes: &[u8]) -> Result<Text, Fail> {
+fn text(rt: &HostRuntime, bytes: &[u8]) -> Result<Text, Fail>
+    ensures { IfOk result (λ text. text ≡ bytes.now) }
+{
     match Text::from_bytes(rt.alloc(), bytes) {
         Ok(Some(text)) => Ok(text),
         _ => Err("no text".into()),
