@@ -10,6 +10,7 @@ use Rattle.je_consts.specs.Adding.{Keeps}
 use Rattle.je_consts.specs.Pool.{const_at, text_of, text_at, class_of, class_at, IsPool}
 use Rattle.je_desc.specs.Names.{IsClassName}
 use Rattle.je_desc.specs.Descriptor.{FieldDescriptor}
+use Rattle.je_class.specs.declared.member.Attribute.{Attribute}
 use Rattle.je_class.specs.declared.member.Member.{Member}
 use Rattle.je_class.specs.Class.{Class, IsClassIndex, IsTextIndex, IsDescriptorOf, with_code}
 use Rattle.je_base.specs.Parts.{U2, IsSoundPart, each, table_parts}
