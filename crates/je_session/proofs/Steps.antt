@@ -1,6 +1,6 @@
 -- The steps of a run, put together.
 use Rattle.std.proofs.Common.{◌⊎◌, inl, inr, ◌≡◌, ℕ, ◌<◌, ◌≤◌, List, [], ◌∷◌, ◌++◌, Option, Some, None, Result, Ok, Err, length, refl, sym, ap, ◌∙◌, arith}
-use Rattle.std.specs.Prelude.{IfOk, IfSome, string_bytes}
+use Rattle.std.specs.Prelude.{IfOk, IfErr, IfSome, string_bytes}
 use Rattle.std.specs.List.{AllByRecursion}
 use Rattle.std.proofs.lemmas.List.{append-nil}
 use Rattle.std.proofs.lemmas.List.Elements.{All-from_recursion}
@@ -107,6 +107,15 @@ prepared words files bytes script source edited matched made line reads holds fo
 pub if_ok_both : {T E : Type 0} {P Q R : T → Type 0} (r : Result T E) → IfOk r P → IfOk r Q → ((x : T) → P x → Q x → R x) → IfOk r R
 if_ok_both (Ok x) p q f = f x p q
 if_ok_both (Err e) p q f = tt
+
+-- what follows for each `Err`
+pub if_err_then : {T E : Type 0} {P Q : E → Type 0} (r : Result T E) → IfErr r P → ((e : E) → P e → Q e) → IfErr r Q
+if_err_then (Ok x) p f = tt
+if_err_then (Err e) p f = f e p
+
+pub if_err_all : {T E : Type 0} {P : E → Type 0} (r : Result T E) → ((e : E) → P e) → IfErr r P
+if_err_all (Ok x) f = tt
+if_err_all (Err e) f = f e
 
 -- ---- stops at an output
 

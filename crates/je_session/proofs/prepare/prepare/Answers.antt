@@ -1,6 +1,7 @@
 use Rattle.std.proofs.lemmas.Result.{err_from_is_err_and}
 use Rattle.je_session.proofs.ClassStops.{stopped_at_bytes}
-use Rattle.je_session.proofs.Steps.{prepared, if_ok_both}
+use Rattle.je_session.specs.Cause.{NoMemory}
+use Rattle.je_session.proofs.Steps.{prepared, if_ok_both, if_err_then, if_err_all}
 use Rattle.je_session.proofs.prepare.prepare.Goals as goal
 
 pub returns-in_err-class-clause-stopped : goal.returns-in_err-class-clause-stopped
@@ -13,3 +14,9 @@ returns-clause-made g c =
     let edited = c.in_ok-class.ensures.edited in
     if_ok_both c.make.result c.make.ensures.bytes c.make.ensures.lines (λ made spelled lines.
     prepared _ _ c.in_ok-bytes.bytes.items c.in_ok-script.script edited.0 c.in_ok-class.class c.in_ok-class.matched made c.in_ok-script.ensures.line c.in_ok-script.ensures.found (rw (← c.read_script.ensures.contents) c.in_ok-bytes.ensures.found) (rw (← c.deref.ensures.value) edited.1) edited.2 spelled lines)
+
+pub returns-clause-stopped : goal.returns-clause-stopped
+returns-clause-stopped g c = if_err_then c.make.result c.make.ensures.memory (λ stop tells. (NoMemory, tt, tells))
+
+pub returns-clause-no_line : goal.returns-clause-no_line
+returns-clause-no_line g c = if_err_all c.make.result (λ stop none. absurd (none c.in_ok-script.ensures.line.0 c.in_ok-script.ensures.line.1))
