@@ -37,6 +37,3 @@ pub use sink::Sink;
 pub use std_sink::StdSink;
 pub use stop::{Failed, FileStop, Memory};
 pub use text::Text;
-
-#[cfg(test)]
-mod tests;

@@ -25,6 +25,3 @@ pub use laws::{names_stay, one_class};
 pub use member::{Attribute, Member};
 pub use reading::read_class;
 pub use writing::write_class;
-
-#[cfg(test)]
-mod tests;

@@ -25,6 +25,3 @@ pub use constant::{Const, Member, MemberTag};
 pub use consts::Consts;
 pub use fault::{ConstFault, PoolStop};
 pub use laws::one_pool;
-
-#[cfg(test)]
-mod tests;

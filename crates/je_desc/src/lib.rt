@@ -15,6 +15,3 @@ pub use method::units;
 pub use names::is_class_name;
 pub use summary::{MemberSig, Summary};
 pub use types::{JType, MethodType};
-
-#[cfg(test)]
-mod tests;

@@ -23,6 +23,3 @@ pub use laws::{
     views_begin_views,
 };
 pub use stop::CodeStop;
-
-#[cfg(test)]
-mod tests;

@@ -54,6 +54,3 @@ pub fn edit_method(
     class.set_method_attribute(editable.at, 0, Items::from_vec(bytes));
     Ok(count)
 }
-
-#[cfg(test)]
-mod tests;

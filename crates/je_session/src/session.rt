@@ -134,6 +134,3 @@ fn tell<E: Sink>(status: Status, line: &[u8], err: &mut E) -> Status
     let _ = err.put(line);
     status
 }
-
-#[cfg(test)]
-mod tests;

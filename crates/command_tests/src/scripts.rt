@@ -1,4 +1,4 @@
-use super::*;
+use je_session::{Fragment, ScriptStop, parse_script};
 use std::test::*;
 
 #[test]

@@ -1,18 +1,9 @@
 ghost use Rattle.std.specs.Prelude.{◌≡◌, IfOk};
 
-use super::*;
 use je_base::Text;
+use je_consts::{Const, ConstFault, Consts, MemberTag, PoolStop};
+use samples::CLASS_A;
 use std::test::*;
-
-/// The pool of a class `A`, whose method `m` calls `A.f`, behind the magic number and the version
-/// of its file.
-const CLASS: [u8; 70] = [
-    0xca, 0xfe, 0xba, 0xbe, 0x00, 0x00, 0x00, 0x31, 0x00, 0x0b, 0x01, 0x00, 0x01, 0x41, 0x07, 0x00,
-    0x01, 0x01, 0x00, 0x10, 0x6a, 0x61, 0x76, 0x61, 0x2f, 0x6c, 0x61, 0x6e, 0x67, 0x2f, 0x4f, 0x62,
-    0x6a, 0x65, 0x63, 0x74, 0x07, 0x00, 0x03, 0x01, 0x00, 0x01, 0x6d, 0x01, 0x00, 0x03, 0x28, 0x29,
-    0x56, 0x01, 0x00, 0x04, 0x43, 0x6f, 0x64, 0x65, 0x01, 0x00, 0x01, 0x66, 0x0c, 0x00, 0x08, 0x00,
-    0x06, 0x0a, 0x00, 0x02, 0x00, 0x09,
-];
 
 /// A pool with an entry of each tag.
 const TAGS: [u8; 82] = [
@@ -25,7 +16,7 @@ const TAGS: [u8; 82] = [
 ];
 
 fn class_pool(rt: &HostRuntime) -> Result<Consts, Fail> {
-    match Consts::read(rt.alloc(), &CLASS, 8) {
+    match Consts::read(rt.alloc(), &CLASS_A, 8) {
         Ok((consts, 70)) => Ok(consts),
         Ok(_) => Err("another end".into()),
         Err(_) => Err("no pool".into()),
@@ -50,7 +41,7 @@ fn read_copied_and_written(rt: HostRuntime) -> Result<(), Fail> {
     assert!(rt; consts.text(2).is_none() && consts.class_name(1).is_none());
     let copy = consts.copy()?;
     let written = copy.write()?;
-    assert_eq!(rt; written.as_slice(), &CLASS[8..]);
+    assert_eq!(rt; written.as_slice(), &CLASS_A[8..70]);
     Ok(())
 }
 
@@ -134,7 +125,7 @@ fn added_to_a_copy(rt: HostRuntime) -> Result<(), Fail> {
     assert_eq!(rt; copy.add(Const::Integer(6)), Ok(11));
     assert_eq!(rt; consts.count(), 11);
     let mut expected = Vec::from_slice(rt.alloc(), b"\x00\x0c")?;
-    expected.extend_from_slice(&CLASS[10..])?;
+    expected.extend_from_slice(&CLASS_A[10..70])?;
     expected.extend_from_slice(b"\x03\x00\x00\x00\x06")?;
     let written = copy.write()?;
     assert_eq!(rt; written.as_slice(), expected.as_slice());

@@ -1,13 +1,7 @@
-use crate::bytes::{Cut, put_u16, put_u32, put_u64, run_at, u8_at, u16_at, u32_at, u64_at};
-use crate::encoding::{decode_text, encode_text};
-use crate::files::Files;
-use crate::fs_files::FsFiles;
-use crate::mem_files::MemFiles;
-use crate::mem_sink::MemSink;
-use crate::sink::Sink;
-use crate::std_sink::StdSink;
-use crate::stop::{Failed, FileStop};
-use crate::text::Text;
+use je_base::{
+    Cut, Failed, FileStop, Files, FsFiles, MemFiles, MemSink, Sink, StdSink, Text, decode_text,
+    encode_text, put_u16, put_u32, put_u64, run_at, u8_at, u16_at, u32_at, u64_at,
+};
 use std::fs;
 use std::hash::{DefaultHasher, Hash, Hasher};
 use std::test::Fail;

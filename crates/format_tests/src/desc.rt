@@ -1,4 +1,4 @@
-use super::*;
+use je_desc::{is_class_name, is_field, units};
 use std::test::*;
 
 /// So many times the piece, between a front and an end.

@@ -1,23 +1,12 @@
 ghost use Rattle.std.specs.Prelude.{◌≡◌, IfOk};
 
-use super::*;
 use je_base::Text;
+use je_class::{ClassFault, ClassFile, read_class, write_class};
 use je_consts::Const;
 use je_desc::Summary;
+use samples::CLASS_A;
 use sqlite_items::Items;
 use std::test::*;
-
-/// The class `A` with one static method `m`, which calls `A.f` and returns.
-const BYTES: [u8; 114] = [
-    0xca, 0xfe, 0xba, 0xbe, 0x00, 0x00, 0x00, 0x31, 0x00, 0x0b, 0x01, 0x00, 0x01, 0x41, 0x07, 0x00,
-    0x01, 0x01, 0x00, 0x10, 0x6a, 0x61, 0x76, 0x61, 0x2f, 0x6c, 0x61, 0x6e, 0x67, 0x2f, 0x4f, 0x62,
-    0x6a, 0x65, 0x63, 0x74, 0x07, 0x00, 0x03, 0x01, 0x00, 0x01, 0x6d, 0x01, 0x00, 0x03, 0x28, 0x29,
-    0x56, 0x01, 0x00, 0x04, 0x43, 0x6f, 0x64, 0x65, 0x01, 0x00, 0x01, 0x66, 0x0c, 0x00, 0x08, 0x00,
-    0x06, 0x0a, 0x00, 0x02, 0x00, 0x09, 0x00, 0x21, 0x00, 0x02, 0x00, 0x04, 0x00, 0x00, 0x00, 0x00,
-    0x00, 0x01, 0x00, 0x09, 0x00, 0x05, 0x00, 0x06, 0x00, 0x01, 0x00, 0x07, 0x00, 0x00, 0x00, 0x10,
-    0x00, 0x00, 0x00, 0x00, 0x00, 0x00, 0x00, 0x04, 0xb8, 0x00, 0x0a, 0xb1, 0x00, 0x00, 0x00, 0x00,
-    0x00, 0x00,
-];
 
 /// One interface, one private field `f` of type int with an attribute of one byte.
 const INTERFACE_AND_FIELD: &[u8] =
@@ -40,7 +29,7 @@ fn class_of(rt: &HostRuntime, bytes: &[u8]) -> Result<ClassFile, Fail> {
 
 /// The bytes of class `A` with another one at an offset.
 fn with_byte(at: usize, byte: u8) -> [u8; 114] {
-    let mut bytes = BYTES;
+    let mut bytes = CLASS_A;
     if let Some(old) = bytes.get_mut(at) {
         *old = byte;
     }
@@ -83,7 +72,7 @@ fn comes_back(rt: &HostRuntime, bytes: &[u8]) -> Result<bool, Fail> {
 /// What class `A` is written as with a number as its last constant, and three bytes for the code of
 /// its method.
 fn with_code(rt: &HostRuntime) -> Result<Vec<u8>, Fail> {
-    let mut class = class_of(rt, &BYTES)?;
+    let mut class = class_of(rt, &CLASS_A)?;
     let mut consts = class.consts().copy()?;
     if consts.add(Const::Integer(7)).ok() != Some(11) {
         return Err("index 11".into());
@@ -117,10 +106,10 @@ fn first_bytes_alone(rt: HostRuntime) -> Result<(), Fail> {
         (113, ClassFault::Truncated(112)),
     ];
     for (count, fault) in table {
-        let front = part(&BYTES, 0, count)?;
+        let front = part(&CLASS_A, 0, count)?;
         assert_eq!(rt; fault_of(&rt, front), Some(fault), "at {count}");
     }
-    let mut more = Vec::from_slice(rt.alloc(), &BYTES)?;
+    let mut more = Vec::from_slice(rt.alloc(), &CLASS_A)?;
     more.push(0)?;
     assert_eq!(rt; fault_of(&rt, &more), Some(ClassFault::Trailing(114)));
     Ok(())
@@ -128,7 +117,7 @@ fn first_bytes_alone(rt: HostRuntime) -> Result<(), Fail> {
 
 #[test]
 fn most_bytes(rt: HostRuntime) -> Result<(), Fail> {
-    let mut bytes = Vec::from_slice(rt.alloc(), &BYTES)?;
+    let mut bytes = Vec::from_slice(rt.alloc(), &CLASS_A)?;
     bytes.resize(16_777_216, 0)?;
     assert_eq!(rt; fault_of(&rt, &bytes), Some(ClassFault::Trailing(114)));
     bytes.push(0)?;
@@ -166,7 +155,7 @@ fn one_byte_set(rt: HostRuntime) -> Result<(), Fail> {
 
 #[test]
 fn written_and_copied(rt: HostRuntime) -> Result<(), Fail> {
-    assert!(rt; comes_back(&rt, &BYTES)?);
+    assert!(rt; comes_back(&rt, &CLASS_A)?);
     assert!(rt; comes_back(&rt, &with_tables(&rt)?)?);
     Ok(())
 }
@@ -175,16 +164,16 @@ fn written_and_copied(rt: HostRuntime) -> Result<(), Fail> {
 fn code_set_with_a_grown_pool(rt: HostRuntime) -> Result<(), Fail> {
     let mut wanted = Vec::from_slice(rt.alloc(), part(&with_byte(9, 12), 0, 70)?)?;
     wanted.extend_from_slice(b"\x03\x00\x00\x00\x07")?;
-    wanted.extend_from_slice(part(&BYTES, 70, 92)?)?;
+    wanted.extend_from_slice(part(&CLASS_A, 70, 92)?)?;
     wanted.extend_from_slice(b"\x00\x00\x00\x03\x07\x08\x09")?;
-    wanted.extend_from_slice(part(&BYTES, 112, 114)?)?;
+    wanted.extend_from_slice(part(&CLASS_A, 112, 114)?)?;
     assert_eq!(rt; with_code(&rt)?, wanted);
     Ok(())
 }
 
 #[test]
 fn members_found(rt: HostRuntime) -> Result<(), Fail> {
-    let class = class_of(&rt, &BYTES)?;
+    let class = class_of(&rt, &CLASS_A)?;
     let table: [(&[u8], &[u8], Option<usize>); 3] = [
         (b"m", b"()V", Some(0)),
         (b"q", b"()V", None),
@@ -200,7 +189,7 @@ fn members_found(rt: HostRuntime) -> Result<(), Fail> {
 
 #[test]
 fn summed_up(rt: HostRuntime) -> Result<(), Fail> {
-    let summary = summary_of(&rt, &BYTES)?;
+    let summary = summary_of(&rt, &CLASS_A)?;
     assert_eq!(rt; summary.name.bytes(), b"A".as_slice());
     let super_name = summary.super_name.as_ref().ok_or("a super class")?;
     assert_eq!(rt; super_name.bytes(), b"java/lang/Object".as_slice());

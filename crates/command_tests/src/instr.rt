@@ -1,5 +1,5 @@
-use super::*;
 use je_consts::Consts;
+use je_instr::{CodeStop, Instr, called_method, decode, encode, read_code, write_code};
 use std::test::*;
 
 /// Calls the method of constant 10 and returns.

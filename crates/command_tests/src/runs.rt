@@ -1,33 +1,11 @@
 //! Whole runs over files and sinks in memory.
-use super::*;
 use je_base::{MemFiles, MemSink};
+use je_session::{Status, run};
+use samples::{CLASS_A, CLASS_A_WITHOUT_CALL};
 use std::process::Abort;
 use std::test::Fail;
 
 const SCRIPT: &str = "class A { method void m() { call A.f { } } }";
-
-// Class A, whose one method `m` calls `A.f()V` and returns.
-const SOURCE: [u8; 114] = [
-    0xca, 0xfe, 0xba, 0xbe, 0x00, 0x00, 0x00, 0x31, 0x00, 0x0b, 0x01, 0x00, 0x01, 0x41, 0x07, 0x00,
-    0x01, 0x01, 0x00, 0x10, 0x6a, 0x61, 0x76, 0x61, 0x2f, 0x6c, 0x61, 0x6e, 0x67, 0x2f, 0x4f, 0x62,
-    0x6a, 0x65, 0x63, 0x74, 0x07, 0x00, 0x03, 0x01, 0x00, 0x01, 0x6d, 0x01, 0x00, 0x03, 0x28, 0x29,
-    0x56, 0x01, 0x00, 0x04, 0x43, 0x6f, 0x64, 0x65, 0x01, 0x00, 0x01, 0x66, 0x0c, 0x00, 0x08, 0x00,
-    0x06, 0x0a, 0x00, 0x02, 0x00, 0x09, 0x00, 0x21, 0x00, 0x02, 0x00, 0x04, 0x00, 0x00, 0x00, 0x00,
-    0x00, 0x01, 0x00, 0x09, 0x00, 0x05, 0x00, 0x06, 0x00, 0x01, 0x00, 0x07, 0x00, 0x00, 0x00, 0x10,
-    0x00, 0x00, 0x00, 0x00, 0x00, 0x00, 0x00, 0x04, 0xb8, 0x00, 0x0a, 0xb1, 0x00, 0x00, 0x00, 0x00,
-    0x00, 0x00,
-];
-
-// The same without the call.
-const EDITED: [u8; 111] = [
-    0xca, 0xfe, 0xba, 0xbe, 0x00, 0x00, 0x00, 0x31, 0x00, 0x0b, 0x01, 0x00, 0x01, 0x41, 0x07, 0x00,
-    0x01, 0x01, 0x00, 0x10, 0x6a, 0x61, 0x76, 0x61, 0x2f, 0x6c, 0x61, 0x6e, 0x67, 0x2f, 0x4f, 0x62,
-    0x6a, 0x65, 0x63, 0x74, 0x07, 0x00, 0x03, 0x01, 0x00, 0x01, 0x6d, 0x01, 0x00, 0x03, 0x28, 0x29,
-    0x56, 0x01, 0x00, 0x04, 0x43, 0x6f, 0x64, 0x65, 0x01, 0x00, 0x01, 0x66, 0x0c, 0x00, 0x08, 0x00,
-    0x06, 0x0a, 0x00, 0x02, 0x00, 0x09, 0x00, 0x21, 0x00, 0x02, 0x00, 0x04, 0x00, 0x00, 0x00, 0x00,
-    0x00, 0x01, 0x00, 0x09, 0x00, 0x05, 0x00, 0x06, 0x00, 0x01, 0x00, 0x07, 0x00, 0x00, 0x00, 0x0d,
-    0x00, 0x00, 0x00, 0x00, 0x00, 0x00, 0x00, 0x01, 0xb1, 0x00, 0x00, 0x00, 0x00, 0x00, 0x00,
-];
 
 #[derive(Drop)]
 struct Outside {
@@ -40,7 +18,7 @@ struct Outside {
 fn ample(rt: &HostRuntime, script: &str) -> Result<Outside, Fail> {
     let mut files = MemFiles::new(rt.alloc());
     files.add("s.je", script.as_bytes())?;
-    files.add("./A.class", &SOURCE)?;
+    files.add("./A.class", &CLASS_A)?;
     files.room(4, 1000)?;
     let mut out = MemSink::new(rt.alloc());
     out.room(1000)?;
@@ -73,7 +51,7 @@ fn memory_with_ample_room(rt: HostRuntime) -> Result<(), Fail> {
     );
     assert_eq!(rt; outside.err.bytes(), b"".as_slice());
     let written = outside.files.content("out/A.class").ok_or("written")?;
-    assert_eq!(rt; written, EDITED.as_slice());
+    assert_eq!(rt; written, CLASS_A_WITHOUT_CALL.as_slice());
     assert_eq!(rt; outside.files.asked().len(), 2);
     for (asked, path) in outside.files.asked().iter().zip(["s.je", "./A.class"]) {
         assert_eq!(rt; asked.as_str(), path);
@@ -93,7 +71,7 @@ fn proceed_keeps_the_call(rt: HostRuntime) -> Result<(), Fail> {
     );
     assert_eq!(rt; outside.err.bytes(), b"".as_slice());
     let written = outside.files.content("out/A.class").ok_or("written")?;
-    assert_eq!(rt; written, SOURCE.as_slice());
+    assert_eq!(rt; written, CLASS_A.as_slice());
     Ok(())
 }
 
@@ -177,13 +155,13 @@ fn refusals(rt: HostRuntime) -> Result<(), Fail> {
 fn refused_classes(rt: HostRuntime) -> Result<(), Fail> {
     let script_b = "class B { method void m() { call A.f { } } }";
     let other_method = "class A { method void q() { call A.f { } } }";
-    let mut older = SOURCE;
+    let mut older = CLASS_A;
     older[7] = 0x30;
-    let mut newer = SOURCE;
+    let mut newer = CLASS_A;
     newer[7] = 0x34;
-    let mut no_descriptor = SOURCE;
+    let mut no_descriptor = CLASS_A;
     no_descriptor[87] = 0x08;
-    let mut longer = Vec::from_slice(rt.alloc(), &SOURCE)?;
+    let mut longer = Vec::from_slice(rt.alloc(), &CLASS_A)?;
     longer.push(0)?;
     // The script, where its class lies, what lies there, and the line that refuses it.
     for (script, path, class, err) in [
@@ -196,7 +174,7 @@ fn refused_classes(rt: HostRuntime) -> Result<(), Fail> {
         (
             SCRIPT,
             "./A.class",
-            &SOURCE[..3],
+            &CLASS_A[..3],
             b"bad class A truncated 0\n".as_slice(),
         ),
         (
@@ -214,7 +192,7 @@ fn refused_classes(rt: HostRuntime) -> Result<(), Fail> {
         (
             script_b,
             "./B.class",
-            SOURCE.as_slice(),
+            CLASS_A.as_slice(),
             b"wrong name B found A\n".as_slice(),
         ),
         (
@@ -226,7 +204,7 @@ fn refused_classes(rt: HostRuntime) -> Result<(), Fail> {
         (
             other_method,
             "./A.class",
-            SOURCE.as_slice(),
+            CLASS_A.as_slice(),
             b"not yet class\n".as_slice(),
         ),
     ] {
@@ -242,12 +220,12 @@ fn refused_classes(rt: HostRuntime) -> Result<(), Fail> {
 fn with_members<R: AllocGlobal>(rt: &R, methods: &[u8]) -> Result<Vec<u8>, Fail> {
     let mut class = Vec::new(rt.alloc());
     for part in [
-        &SOURCE[..8],
+        &CLASS_A[..8],
         [0, 12].as_slice(),
-        &SOURCE[10..70],
+        &CLASS_A[10..70],
         // the text `I`
         [1, 0, 1, b'I'].as_slice(),
-        &SOURCE[70..76],
+        &CLASS_A[70..76],
         // the interface java/lang/Object
         [0, 1, 0, 4].as_slice(),
         // the field `int f`
@@ -264,12 +242,12 @@ fn with_members<R: AllocGlobal>(rt: &R, methods: &[u8]) -> Result<Vec<u8>, Fail>
 #[test]
 fn other_members_stay(rt: HostRuntime) -> Result<(), Fail> {
     let mut outside = ample(&rt, SCRIPT)?;
-    let class = with_members(&rt, &SOURCE[80..112])?;
+    let class = with_members(&rt, &CLASS_A[80..112])?;
     outside.files.add("./A.class", &class)?;
     let out = b"edited A.m()V matched 1\nwrote out/A.class\n".as_slice();
     expect(&rt, &mut outside, &["s.je"], Status::Done, out, b"")?;
     let written = outside.files.content("out/A.class").ok_or("written")?;
-    let edited = with_members(&rt, &EDITED[80..109])?;
+    let edited = with_members(&rt, &CLASS_A_WITHOUT_CALL[80..109])?;
     assert_eq!(rt; written, edited.as_slice());
     Ok(())
 }
@@ -278,14 +256,14 @@ fn other_members_stay(rt: HostRuntime) -> Result<(), Fail> {
 fn with_calls<R: AllocGlobal>(rt: &R, calls: u8) -> Result<Vec<u8>, Fail> {
     let mut class = Vec::new(rt.alloc());
     let code_len = 3 * calls as u16 + 1;
-    class.extend_from_slice(&SOURCE[..94])?;
+    class.extend_from_slice(&CLASS_A[..94])?;
     class.extend_from_slice(&(12 + code_len).to_be_bytes())?;
-    class.extend_from_slice(&SOURCE[96..102])?;
+    class.extend_from_slice(&CLASS_A[96..102])?;
     class.extend_from_slice(&code_len.to_be_bytes())?;
     for _ in 0..calls {
-        class.extend_from_slice(&SOURCE[104..107])?;
+        class.extend_from_slice(&CLASS_A[104..107])?;
     }
-    class.extend_from_slice(&SOURCE[107..])?;
+    class.extend_from_slice(&CLASS_A[107..])?;
     Ok(class)
 }
 
@@ -320,7 +298,7 @@ fn several_matches(rt: HostRuntime) -> Result<(), Fail> {
         let edited = if proceeds {
             class.as_slice()
         } else {
-            EDITED.as_slice()
+            CLASS_A_WITHOUT_CALL.as_slice()
         };
         assert_eq!(rt; written, edited);
     }
@@ -342,12 +320,12 @@ fn with_another_first<R: AllocGlobal>(rt: &R, class: &[u8]) -> Result<Vec<u8>, F
 #[test]
 fn the_planned_method_is_the_second(rt: HostRuntime) -> Result<(), Fail> {
     let mut outside = ample(&rt, SCRIPT)?;
-    let class = with_another_first(&rt, &SOURCE)?;
+    let class = with_another_first(&rt, &CLASS_A)?;
     outside.files.add("./A.class", &class)?;
     let out = b"edited A.m()V matched 1\nwrote out/A.class\n".as_slice();
     expect(&rt, &mut outside, &["s.je"], Status::Done, out, b"")?;
     let written = outside.files.content("out/A.class").ok_or("written")?;
-    let edited = with_another_first(&rt, &EDITED)?;
+    let edited = with_another_first(&rt, &CLASS_A_WITHOUT_CALL)?;
     assert_eq!(rt; written, edited.as_slice());
     Ok(())
 }
@@ -359,18 +337,18 @@ fn what_stands_at_the_out_path_is_replaced(rt: HostRuntime) -> Result<(), Fail> 
         b"edited A.m()V matched 1\nwrote out/A.class\nedited A.m()V matched 1\nwrote out/A.class\n";
     for there in [
         b"other bytes".as_slice(),
-        SOURCE.as_slice(),
-        EDITED.as_slice(),
+        CLASS_A.as_slice(),
+        CLASS_A_WITHOUT_CALL.as_slice(),
     ] {
         let mut outside = ample(&rt, SCRIPT)?;
         outside.files.add("out/A.class", there)?;
         expect(&rt, &mut outside, &["s.je"], Status::Done, once, b"")?;
         let written = outside.files.content("out/A.class").ok_or("written")?;
-        assert_eq!(rt; written, EDITED.as_slice());
+        assert_eq!(rt; written, CLASS_A_WITHOUT_CALL.as_slice());
         // The same run once more, over what the first one left.
         expect(&rt, &mut outside, &["s.je"], Status::Done, twice, b"")?;
         let written = outside.files.content("out/A.class").ok_or("written again")?;
-        assert_eq!(rt; written, EDITED.as_slice());
+        assert_eq!(rt; written, CLASS_A_WITHOUT_CALL.as_slice());
         assert_eq!(rt; outside.files.writes(), 2);
     }
     Ok(())
@@ -382,7 +360,7 @@ fn nothing_matched(rt: HostRuntime) -> Result<(), Fail> {
     let out = b"edited A.m()V matched 0\nwrote out/A.class\n".as_slice();
     expect(&rt, &mut outside, &["s.je"], Status::Done, out, b"")?;
     let written = outside.files.content("out/A.class").ok_or("written")?;
-    assert_eq!(rt; written, SOURCE.as_slice());
+    assert_eq!(rt; written, CLASS_A.as_slice());
     Ok(())
 }
 
