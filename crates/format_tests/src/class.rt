@@ -1,7 +1,7 @@
 ghost use Rattle.std.specs.Prelude.{◌≡◌, IfOk};
 
 use je_base::Text;
-use je_class::{ClassFault, ClassFile, read_class, write_class};
+use je_class::{ClassFault, ClassFile, MethodIndex, read_class, write_class};
 use je_consts::Const;
 use je_desc::Summary;
 use samples::CLASS_A;
@@ -222,5 +222,33 @@ fn summed_up_with_tables(rt: HostRuntime) -> Result<(), Fail> {
     let first = class_of(&rt, &with_byte(75, 0))?;
     assert!(rt; first.super_name().is_none());
     assert!(rt; first.summary()?.super_name.is_none());
+    Ok(())
+}
+
+/// Class `A` with its method twice.
+fn with_method_twice(rt: &HostRuntime) -> Result<Vec<u8>, Fail> {
+    let mut bytes = Vec::from_slice(rt.alloc(), part(&CLASS_A, 0, 81)?)?;
+    bytes.push(2)?;
+    bytes.extend_from_slice(part(&CLASS_A, 82, 112)?)?;
+    bytes.extend_from_slice(part(&CLASS_A, 82, 114)?)?;
+    Ok(bytes)
+}
+
+#[test]
+fn methods_found_by_index(rt: HostRuntime) -> Result<(), Fail> {
+    let class = class_of(&rt, &with_method_twice(&rt)?)?;
+    assert_eq!(rt; class.methods().len(), 2);
+    let index = MethodIndex::of(&class)?;
+    let table: [(&[u8], &[u8], Option<usize>); 3] = [
+        (b"m", b"()V", Some(0)),
+        (b"q", b"()V", None),
+        (b"m", b"()I", None),
+    ];
+    for (name, descriptor, found) in table {
+        let name = text(&rt, name)?;
+        let descriptor = text(&rt, descriptor)?;
+        assert_eq!(rt; index.find(&name, &descriptor), found);
+        assert_eq!(rt; class.find_member(&name, &descriptor), found);
+    }
     Ok(())
 }

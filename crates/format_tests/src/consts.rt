@@ -221,3 +221,14 @@ fn named(rt: HostRuntime) -> Result<(), Fail> {
     }
     Ok(())
 }
+
+#[test]
+fn written_behind_other_bytes(rt: HostRuntime) -> Result<(), Fail> {
+    let consts = class_pool(&rt)?;
+    let mut out = Vec::from_slice(rt.alloc(), b"front")?;
+    consts.write_to(&mut out)?;
+    let mut wanted = Vec::from_slice(rt.alloc(), b"front")?;
+    wanted.extend_from_slice(&CLASS_A[8..70])?;
+    assert_eq!(rt; out.as_slice(), wanted.as_slice());
+    Ok(())
+}

@@ -1,5 +1,6 @@
 -- What files hold, and what reads and writes do to that.
-use Rattle.std.specs.Prelude.{◌≡◌, ◌≢◌, ℕ, List, [], ◌∷◌, ◌++◌, take, Option, Some, None, Result, Err, ◌⊎◌}
+use Rattle.std.specs.Prelude.{◌≡◌, ◌≢◌, ℕ, List, [], ◌∷◌, ◌++◌, take}
+use Rattle.std.specs.Prelude.{Option, Some, None, Result, Err, ◌⊎◌}
 use Rattle.std.specs.Option.{option_map}
 use Rattle.std.specs.Global.{Vec}
 use Rattle.std.specs.Ordering.{nat_cmp}
@@ -21,21 +22,29 @@ coded_contents = code (coded_list coded_ℕ) (coded_list coded_ℕ)
 -- A read answers the first `limit` bytes of what lies at the path, where the contents are told.
 abbrev pub Tells : Option Contents → List ℕ → ℕ → Option (Vec ℕ) → Type 0
 Tells None path limit found = Unit {0}
-Tells (Some contents) path limit found = option_map (λ v. v.items) found ≡ option_map (take limit) (get contents path)
+Tells (Some contents) path limit found =
+    option_map (λ v. v.items) found ≡ option_map (take limit) (get contents path)
 
 -- The path is one more of the paths asked, where they are told, and the number of reads rose.
 abbrev pub IsAsked : List ℕ → Option (List (List ℕ)) → ℕ → Option (List (List ℕ)) → ℕ → Type 0
 IsAsked path asked_old reads_old asked_new reads_new =
-    (asked_new ≡ option_map (λ asked. asked ++ path ∷ []) asked_old) × (reads_new ≡ raised reads_old)
+    (asked_new ≡ option_map (λ asked. asked ++ path ∷ []) asked_old)
+    × (reads_new ≡ raised reads_old)
 
--- A read is asked. One that ends for want of memory may not be, and then paths and number are as they were.
-abbrev pub AsksAndCounts : {T : Type 0} → List ℕ → Result T FileStop → Option (List (List ℕ)) → ℕ → Option (List (List ℕ)) → ℕ → Type 0
+-- A read is asked. One that ends for want of memory may not be, and then paths and number are as
+-- they were.
+abbrev pub AsksAndCounts :
+    {T : Type 0} → List ℕ → Result T FileStop → Option (List (List ℕ)) → ℕ
+    → Option (List (List ℕ)) → ℕ → Type 0
 AsksAndCounts path (Err stop.Memory) asked_old reads_old asked_new reads_new =
-    ((asked_new ≡ asked_old) × (reads_new ≡ reads_old)) ⊎ IsAsked path asked_old reads_old asked_new reads_new
-AsksAndCounts path _ asked_old reads_old asked_new reads_new = IsAsked path asked_old reads_old asked_new reads_new
+    ((asked_new ≡ asked_old) × (reads_new ≡ reads_old))
+    ⊎ IsAsked path asked_old reads_old asked_new reads_new
+AsksAndCounts path _ asked_old reads_old asked_new reads_new =
+    IsAsked path asked_old reads_old asked_new reads_new
 
 -- what lies at every other path is as it was
 abbrev pub KeepsOthers : List ℕ → Option Contents → Option Contents → Type 0
-KeepsOthers path (Some old) (Some new) = (other : List ℕ) → other ≢ path → get new other ≡ get old other
+KeepsOthers path (Some old) (Some new) =
+    (other : List ℕ) → other ≢ path → get new other ≡ get old other
 KeepsOthers path None None = Unit {0}
 KeepsOthers path _ _ = ⊥

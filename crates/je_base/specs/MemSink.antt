@@ -13,10 +13,28 @@ pub record SinkState : Type 0 where
   -- the room left, in bytes
   pub spare : ℕ
 
+-- the two lists
+abbrev coded_lists : Coded (List ℕ × List ℕ)
+coded_lists = coded× (coded_list coded_ℕ) (coded_list coded_ℕ)
+
+-- the three numbers
+abbrev coded_numbers : Coded (ℕ × (ℕ × ℕ))
+coded_numbers = coded× coded_ℕ (coded× coded_ℕ coded_ℕ)
+
 -- the two lists and the three numbers
 abbrev pub coded_sink : Coded SinkState
 coded_sink =
-    code_by (List ℕ × (List ℕ × (ℕ × (ℕ × ℕ)))) (coded× (coded_list coded_ℕ) (coded× (coded_list coded_ℕ) (coded× coded_ℕ (coded× coded_ℕ coded_ℕ)))) (λ s. (s.bytes, (s.failing, (s.puts, (s.faults, s.spare))))) (λ p. record { bytes = p.0; failing = p.1.0; puts = p.1.1.0; faults = p.1.1.1.0; spare = p.1.1.1.1 }) (λ _. refl)
+    code_by ((List ℕ × List ℕ) × (ℕ × (ℕ × ℕ)))
+    (coded× coded_lists coded_numbers)
+    (λ s. ((s.bytes, s.failing), (s.puts, (s.faults, s.spare))))
+    (λ p. record {
+      bytes = p.0.0;
+      failing = p.0.1;
+      puts = p.1.0;
+      faults = p.1.1.0;
+      spare = p.1.1.1;
+    })
+    (λ _. refl)
 
 -- nothing was put, and there is no room
 abbrev pub empty_sink : SinkState
@@ -32,7 +50,11 @@ HasRoomFor sink piece = length piece ≤ sink.spare
 
 -- a put that was done: it uses up its length of the room
 abbrev pub after_put : SinkState → List ℕ → SinkState
-after_put sink piece = record sink { bytes = sink.bytes ++ piece; puts = raised sink.puts; spare = sink.spare - length piece }
+after_put sink piece = record sink {
+  bytes = sink.bytes ++ piece;
+  puts = raised sink.puts;
+  spare = sink.spare - length piece;
+}
 
 -- a put that failed: the bytes and the room are as they were
 abbrev pub after_failed_put : SinkState → SinkState

@@ -1,6 +1,7 @@
--- A format of bytes as the list of its parts, each with its tests: its bytes, what makes them sound, and the first
--- fault where they do not stand are one definition.
-use Rattle.std.specs.Prelude.{◌≡◌, ℕ, ◌+◌, ◌^◌, ◌<◌, ◌⊎◌, List, [], ◌∷◌, ◌++◌, length, drop, Result, Ok, Err}
+-- A format of bytes as the list of its parts, each with its tests: its bytes, what makes them
+-- sound, and the first fault where they do not stand are one definition.
+use Rattle.std.specs.Prelude.{◌≡◌, ℕ, ◌+◌, ◌^◌, ◌<◌, ◌⊎◌, List, [], ◌∷◌, ◌++◌, length, drop}
+use Rattle.std.specs.Prelude.{Result, Ok, Err}
 use Rattle.std.specs.List.{AllByRecursion}
 use Rattle.je_base.specs.Bytes.{u1, u2, u4, IsThere}
 
@@ -14,9 +15,9 @@ pub data Part (Test Value : Type 0) : Type 0 where
   Run : (bytes : List ℕ) → Part Test Value
   Nested : (value : Value) → Part Test Value
 
--- What a format gives: when a test passes, and the fault where it does not, by the offset at which its number begins; the
--- fault of what is cut off at an offset; and the bytes of a nested value, when it is sound, and why none stands at
--- an offset.
+-- What a format gives: when a test passes, and the fault where it does not, by the offset at which
+-- its number begins; the fault of what is cut off at an offset; and the bytes of a nested value,
+-- when it is sound, and why none stands at an offset.
 pub record Format (Test Value Fault : Type 0) : Type 1 where
   pub Passes : Test → Type 0
   pub fault_of : Test → ℕ → Fault
@@ -31,7 +32,8 @@ each parts [] = []
 each parts (x ∷ xs) = parts x ++ each parts xs
 
 -- a count of two bytes, and that many structures
-abbrev pub table_parts : {A Test Value : Type 0} → (A → List (Part Test Value)) → List A → List (Part Test Value)
+abbrev pub table_parts :
+    {A Test Value : Type 0} → (A → List (Part Test Value)) → List A → List (Part Test Value)
 table_parts parts xs = U2 (length xs) [] ∷ each parts xs
 
 module _ {Test Value Fault : Type 0} (format : Format Test Value Fault) where
@@ -76,11 +78,14 @@ module _ {Test Value Fault : Type 0} (format : Format Test Value Fault) where
   -- why a part does not stand at an offset: it is cut off, or a test of its number fails
   abbrev pub IsPartFault : List ℕ → ℕ → Part Test Value → Fault → Type 0
   IsPartFault bytes at (U1 number tests) fault =
-      IsCut bytes at 1 fault ⊎ (IsThere bytes at (u1 number) × (number < 2 ^ 8) × FailsFirst at tests fault)
+      IsCut bytes at 1 fault
+      ⊎ (IsThere bytes at (u1 number) × (number < 2 ^ 8) × FailsFirst at tests fault)
   IsPartFault bytes at (U2 number tests) fault =
-      IsCut bytes at 2 fault ⊎ (IsThere bytes at (u2 number) × (number < 2 ^ 16) × FailsFirst at tests fault)
+      IsCut bytes at 2 fault
+      ⊎ (IsThere bytes at (u2 number) × (number < 2 ^ 16) × FailsFirst at tests fault)
   IsPartFault bytes at (U4 number tests) fault =
-      IsCut bytes at 4 fault ⊎ (IsThere bytes at (u4 number) × (number < 2 ^ 32) × FailsFirst at tests fault)
+      IsCut bytes at 4 fault
+      ⊎ (IsThere bytes at (u4 number) × (number < 2 ^ 32) × FailsFirst at tests fault)
   IsPartFault bytes at (Run run) fault = IsCut bytes at (length run) fault
   IsPartFault bytes at (Nested value) fault = format.IsValueFault bytes at fault
 
@@ -94,14 +99,16 @@ module _ {Test Value Fault : Type 0} (format : Format Test Value Fault) where
   abbrev pub Follows : List ℕ → ℕ → List (Part Test Value) → ℕ → Type 0
   Follows bytes at [] end = end ≡ at
   Follows bytes at (part ∷ parts) end =
-      IsThere bytes at (part_bytes part) × IsSoundPart part × Follows bytes (at + length (part_bytes part)) parts end
+      IsThere bytes at (part_bytes part) × IsSoundPart part
+      × Follows bytes (at + length (part_bytes part)) parts end
 
   -- the first of the parts that does not stand, from an offset on
   abbrev pub Breaks : List ℕ → ℕ → List (Part Test Value) → Fault → Type 0
   Breaks bytes at [] fault = ⊥
   Breaks bytes at (part ∷ parts) fault =
       IsPartFault bytes at part fault
-      ⊎ (IsThere bytes at (part_bytes part) × IsSoundPart part × Breaks bytes (at + length (part_bytes part)) parts fault)
+      ⊎ (IsThere bytes at (part_bytes part) × IsSoundPart part
+      × Breaks bytes (at + length (part_bytes part)) parts fault)
 
   -- all of the parts stand there, up to an offset, or one of them is the first that does not
   abbrev pub Goes : List ℕ → ℕ → List (Part Test Value) → Result ℕ Fault → Type 0
@@ -109,12 +116,15 @@ module _ {Test Value Fault : Type 0} (format : Format Test Value Fault) where
   Goes bytes at parts (Err fault) = Breaks bytes at parts fault
 
   -- what comes of reading the parts from an offset on
-  pub record Comes (bytes : List ℕ) (at : ℕ) (parts : List (Part Test Value)) (answer : Result ℕ Fault) : Type 0 where
+  pub record Comes
+      (bytes : List ℕ) (at : ℕ) (parts : List (Part Test Value)) (answer : Result ℕ Fault)
+      : Type 0 where
     pub goes : Goes bytes at parts answer
 
 -- ---- one way to read
 
--- parts of one sort: numbers of one size, with the same tests where they are the same, runs of one length, nested values
+-- parts of one sort: numbers of one size, with the same tests where they are the same, runs of one
+-- length, nested values
 abbrev pub IsSameSort : {Test Value : Type 0} → Part Test Value → Part Test Value → Type 0
 IsSameSort (U1 m tests) (U1 n others) = m ≡ n → tests ≡ others
 IsSameSort (U2 m tests) (U2 n others) = m ≡ n → tests ≡ others
@@ -124,7 +134,8 @@ IsSameSort (Nested value) (Nested other) = Unit {0}
 IsSameSort _ _ = ⊥
 
 -- Parts of one layout: what was read decides the sort of the part that comes next.
-abbrev pub AreOneLayout : {Test Value : Type 0} → List (Part Test Value) → List (Part Test Value) → Type 0
+abbrev pub AreOneLayout :
+    {Test Value : Type 0} → List (Part Test Value) → List (Part Test Value) → Type 0
 AreOneLayout [] [] = Unit {0}
 AreOneLayout (x ∷ xs) (y ∷ ys) = IsSameSort x y × (x ≡ y → AreOneLayout xs ys)
 AreOneLayout _ _ = ⊥
@@ -139,11 +150,17 @@ Agree y z (Err d) (Ok b) = ⊥
 module _ {Test Value Fault : Type 0} (format : Format Test Value Fault) where
   -- bytes are one nested value from an offset on or have one fault there
   pub record OneValue : Type 0 where
-    pub same : (bytes : List ℕ) (at : ℕ) (value other : Value) → Stands format bytes at (Nested value) → Stands format bytes at (Nested other) → value ≡ other
-    pub no_fault : (bytes : List ℕ) (at : ℕ) (value : Value) (fault : Fault) → Stands format bytes at (Nested value) → format.IsValueFault bytes at fault → ⊥
-    pub one_fault : (bytes : List ℕ) (at : ℕ) (fault other : Fault) → format.IsValueFault bytes at fault → format.IsValueFault bytes at other → fault ≡ other
+    pub same : (bytes : List ℕ) (at : ℕ) (value other : Value)
+        → Stands format bytes at (Nested value) → Stands format bytes at (Nested other)
+        → value ≡ other
+    pub no_fault : (bytes : List ℕ) (at : ℕ) (value : Value) (fault : Fault)
+        → Stands format bytes at (Nested value) → format.IsValueFault bytes at fault → ⊥
+    pub one_fault : (bytes : List ℕ) (at : ℕ) (fault other : Fault)
+        → format.IsValueFault bytes at fault → format.IsValueFault bytes at other → fault ≡ other
 
   -- What stands at an offset is one way: parts of one layout come to one answer there.
   pub record OneWay : Type 0 where
-    pub agree : (bytes : List ℕ) (at : ℕ) (parts others : List (Part Test Value)) (answer other : Result ℕ Fault) → AreOneLayout parts others
-        → Comes format bytes at parts answer → Comes format bytes at others other → Agree parts others answer other
+    pub agree : (bytes : List ℕ) (at : ℕ) (parts others : List (Part Test Value))
+        (answer other : Result ℕ Fault) → AreOneLayout parts others
+        → Comes format bytes at parts answer → Comes format bytes at others other
+        → Agree parts others answer other

@@ -1,4 +1,4 @@
--- Files in one stretch of bytes, each write behind those before it.
+-- Serves private functions: files in one stretch of bytes, each write behind those before it.
 use Rattle.std.specs.Prelude.{ℕ, ◌+◌, ◌-◌, ◌<◌, ◌≤◌, List, [], ◌∷◌, length, refl}
 use Rattle.std.specs.List.{slice_range}
 use Rattle.std.specs.FinMap.{insert}
@@ -14,7 +14,12 @@ pub record Room : Type 0 where
 
 -- the contents and the two numbers
 abbrev pub coded_room : Coded Room
-coded_room = code_by (Contents × (ℕ × ℕ)) (coded× coded_contents (coded× coded_ℕ coded_ℕ)) (λ r. (r.contents, (r.writes, r.bytes))) (λ p. record { contents = p.0; writes = p.1.0; bytes = p.1.1 }) (λ _. refl)
+coded_room =
+    code_by (Contents × (ℕ × ℕ))
+    (coded× coded_contents (coded× coded_ℕ coded_ℕ))
+    (λ r. (r.contents, (r.writes, r.bytes)))
+    (λ p. record { contents = p.0; writes = p.1.0; bytes = p.1.1 })
+    (λ _. refl)
 
 -- the path of one write
 abbrev pub path_at : List ℕ → Span → List ℕ
@@ -27,7 +32,8 @@ content_at bytes span = slice_range bytes span.middle span.end
 -- the contents after further writes, in their order
 abbrev pub contents_after : List ℕ → Contents → List Span → Contents
 contents_after bytes files [] = files
-contents_after bytes files (span ∷ spans) = contents_after bytes (insert files (path_at bytes span) (content_at bytes span)) spans
+contents_after bytes files (span ∷ spans) =
+    contents_after bytes (insert files (path_at bytes span) (content_at bytes span)) spans
 
 -- the span lies in the first so many bytes
 pub record IsWithin (limit : ℕ) (span : Span) : Type 0 where
@@ -37,7 +43,11 @@ pub record IsWithin (limit : ℕ) (span : Span) : Type 0 where
 
 -- where a write lies that is put behind these bytes
 abbrev pub span_behind : List ℕ → List ℕ → List ℕ → Span
-span_behind bytes path content = record { start = length bytes; middle = length bytes + length path; end = length bytes + length path + length content }
+span_behind bytes path content = record {
+  start = length bytes;
+  middle = length bytes + length path;
+  end = length bytes + length path + length content;
+}
 
 -- the room suffices for a write
 pub record HasRoom (room : Room) (path content : List ℕ) : Type 0 where
@@ -46,4 +56,8 @@ pub record HasRoom (room : Room) (path content : List ℕ) : Type 0 where
 
 -- a write in the room
 abbrev pub after_put : Room → List ℕ → List ℕ → Room
-after_put room path content = record { contents = insert room.contents path content; writes = room.writes - 1; bytes = room.bytes - (length path + length content) }
+after_put room path content = record {
+  contents = insert room.contents path content;
+  writes = room.writes - 1;
+  bytes = room.bytes - (length path + length content);
+}

@@ -7,8 +7,8 @@ use Rattle.std.specs.Cmp.Lexicographic.{pointwise}
 abbrev pub IsContinuation : ℕ → Type 0
 IsContinuation b = (0x80 ≤ b) × (b ≤ 0xbf)
 
--- One UTF-16 code unit: one byte from 01 to 7F, two bytes of which the first begins with 110, or three of
--- which the first begins with 1110. Unpaired surrogates are units too.
+-- One UTF-16 code unit: one byte from 01 to 7F, two bytes of which the first begins with 110, or
+-- three of which the first begins with 1110. Unpaired surrogates are units too.
 abbrev pub IsUnit : List ℕ → Type 0
 IsUnit (a ∷ []) = (0x01 ≤ a) × (a ≤ 0x7f)
 IsUnit (a ∷ b ∷ []) = (0xc0 ≤ a) × (a ≤ 0xdf) × IsContinuation b
@@ -17,7 +17,8 @@ IsUnit _ = ⊥
 
 -- the bytes are units, one after the other
 abbrev pub IsModifiedUtf8 : List ℕ → Type 0
-IsModifiedUtf8 bytes = (units : List (List ℕ)) × AllByRecursion IsUnit units × (bytes ≡ flat_map (λ unit. unit) units)
+IsModifiedUtf8 bytes =
+    (units : List (List ℕ)) × AllByRecursion IsUnit units × (bytes ≡ flat_map (λ unit. unit) units)
 
 -- texts are equal where their bytes are
 abbrev pub is_same_text : List ℕ → List ℕ → Bool

@@ -14,6 +14,10 @@ use std::alloc::Global;
 ///
 /// NUL is the bytes C0 80, and a character above U+FFFF the three bytes of its high surrogate and
 /// the three of its low one.
+///
+/// # Errors
+///
+/// `Memory` where memory runs out.
 pub fn encode_text(alloc: Global, s: &str) -> Result<Vec<u8>, Memory>
     ensures { IfOk result (λ bytes. bytes.items ≡ encoding (chars s.now)) }
 {
@@ -52,6 +56,10 @@ fn push_unit(bytes: &mut Vec<u8>, code: u16) -> Result<(), Memory>
 }
 
 /// The string that these bytes encode, or `None` where they are the encoding of no string.
+///
+/// # Errors
+///
+/// `Memory` where memory runs out.
 pub fn decode_text(alloc: Global, b: &[u8]) -> Result<Option<String>, Memory>
     ensures some { IfOk result (λ found. IfSome found (λ s. IsDecoded b.now (characters s))) }
     ensures none { IfOk result (λ found. IfNone found (EncodesNone b.now)) }

@@ -27,6 +27,11 @@ pub trait Files {
 
     /// Reads the first `limit` bytes of the file at `path`, or answers `None` where there is no
     /// file.
+    ///
+    /// # Errors
+    ///
+    /// `FileStop::Failed` where the file cannot be read, with a fault on record, and
+    /// `FileStop::Memory` where memory runs out.
     fn read(&mut self, path: &str, limit: usize) -> Result<Option<Vec<u8>>, FileStop>
         ensures told { IfOk result (Tells (contents self.old) path.now limit) }
         ensures within { IfOk result (λ found. IfSome found (λ bytes. vec_len bytes ≤ limit)) }
@@ -43,7 +48,12 @@ pub trait Files {
         ensures failed { IsErrOf result FileStop.Failed
             → HasFault (faults self.old) (faults self.new) };
 
-    /// Makes `bytes` the file at `path`. After `Failed` that one file is open.
+    /// Makes `bytes` the file at `path`.
+    ///
+    /// # Errors
+    ///
+    /// `Failed` where the file cannot be written, with a fault on record. What that one file holds
+    /// then is open.
     fn write(&mut self, path: &str, bytes: &[u8]) -> Result<(), Failed>
         ensures ok { OnOk result (contents self.new
             ≡ option_map (λ files. insert files path.now bytes.now) (contents self.old)) }

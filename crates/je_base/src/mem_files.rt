@@ -8,7 +8,7 @@ ghost use Rattle.je_base.specs.Count.{raised, HasFault};
 ghost use Rattle.je_base.specs.Files.{Contents, Tells, AsksAndCounts, KeepsOthers};
 ghost use Rattle.je_base.specs.MemFiles.{no_files, FailsNext, HasRoomFor, after_read, after_failed_read, after_write, after_failed_write};
 
-use crate::count::{is_among, raised};
+use crate::count::raised;
 use crate::files::Files;
 use crate::stop::{Failed, FileStop, Memory};
 use crate::store::Store;
@@ -69,6 +69,10 @@ impl MemFiles {
     }
 
     /// Puts a content at a path, in place of an older one. This is no write, and leaves the room.
+    ///
+    /// # Errors
+    ///
+    /// `Memory` where memory runs out.
     pub fn add(&mut self, path: &str, bytes: &[u8]) -> Result<(), Memory>
         ensures ok { OnOk result (self.new
             ≡ record self.old { contents = insert self.old.contents path.now bytes.now }) }
@@ -78,6 +82,10 @@ impl MemFiles {
     }
 
     /// Makes the call of this number fail. Reads and writes are numbered together, from 1.
+    ///
+    /// # Errors
+    ///
+    /// `Memory` where memory runs out.
     pub fn fail_at(&mut self, call: u64) -> Result<(), Memory>
         ensures ok { OnOk result (self.new
             ≡ record self.old { failing = self.old.failing ++ call ∷ [] }) }
@@ -89,6 +97,10 @@ impl MemFiles {
 
     /// Makes room for so many further writes, whose paths and contents have so many bytes in all.
     /// This is then the room left.
+    ///
+    /// # Errors
+    ///
+    /// `Memory` where memory runs out.
     pub fn room(&mut self, writes: usize, bytes: usize) -> Result<(), Memory>
         ensures ok { OnOk result (self.new
             ≡ record self.old { spare_writes = writes; spare_bytes = bytes }) }
@@ -136,7 +148,7 @@ impl MemFiles {
     fn fails_next(&self) -> bool
         ensures { IsTrue result ↔ FailsNext self.now }
     {
-        is_among(&self.failing, raised(self.calls))
+        self.failing.contains(&raised(self.calls))
     }
 
     /// Whether the room left suffices for a write.

@@ -6,7 +6,7 @@ ghost use Rattle.je_base.specs.Count.{raised, HasFault};
 ghost use Rattle.je_base.specs.Sink.{GainsFront};
 ghost use Rattle.je_base.specs.MemSink.{empty_sink, FailsNext, HasRoomFor, after_put, after_failed_put};
 
-use crate::count::{is_among, raised};
+use crate::count::raised;
 use crate::sink::Sink;
 use crate::stop::{Failed, Memory};
 use std::alloc::Global;
@@ -58,6 +58,10 @@ impl MemSink {
     }
 
     /// Makes the put of this number fail. Puts are numbered from 1.
+    ///
+    /// # Errors
+    ///
+    /// `Memory` where memory runs out.
     pub fn fail_at(&mut self, call: u64) -> Result<(), Memory>
         ensures ok { OnOk result (self.new
             ≡ record self.old { failing = self.old.failing ++ call ∷ [] }) }
@@ -68,6 +72,10 @@ impl MemSink {
     }
 
     /// Makes room for so many further bytes. This is then the room left.
+    ///
+    /// # Errors
+    ///
+    /// `Memory` where memory runs out.
     pub fn room(&mut self, bytes: usize) -> Result<(), Memory>
         ensures ok { OnOk result (self.new ≡ record self.old { spare = bytes }) }
         ensures err { OnErr result (self.new ≡ self.old) }
@@ -125,7 +133,7 @@ impl Sink for MemSink {
         ensures faults { self.old.faults ≤ self.new.faults }
         ensures failed { OnErr result (HasFault self.old.faults self.new.faults) }
     {
-        let fails = is_among(&self.failing, raised(self.puts)) || piece.len() > self.spare;
+        let fails = self.failing.contains(&raised(self.puts)) || piece.len() > self.spare;
         self.puts = raised(self.puts);
         if fails {
             self.faults = raised(self.faults);

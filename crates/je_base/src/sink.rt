@@ -18,7 +18,12 @@ pub trait Sink {
     /// How many failures there were.
     ghost faults: { Self → ℕ };
 
-    /// Adds `piece` at the end. After `Failed` a front of the piece was added.
+    /// Adds `piece` at the end.
+    ///
+    /// # Errors
+    ///
+    /// `Failed` where the sink does not take the whole piece, with a fault on record. A front of
+    /// the piece was added then, which may be empty or all of it.
     fn put(&mut self, piece: &[u8]) -> Result<(), Failed>
         ensures ok { OnOk result (bytes self.new
             ≡ option_map (λ taken. taken ++ piece.now) (bytes self.old)) }

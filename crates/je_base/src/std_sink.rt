@@ -33,11 +33,7 @@ impl StdSink<Stdout> {
         ensures puts { result.puts ≡ 0 }
         ensures faults { result.faults ≡ 0 }
     {
-        StdSink {
-            stream,
-            puts: 0,
-            faults: 0,
-        }
+        StdSink::over(stream)
     }
 }
 
@@ -47,15 +43,23 @@ impl StdSink<Stderr> {
         ensures puts { result.puts ≡ 0 }
         ensures faults { result.faults ≡ 0 }
     {
+        StdSink::over(stream)
+    }
+}
+
+impl<W: Write> StdSink<W> {
+    /// A stream with no puts or faults yet.
+    fn over(stream: W) -> StdSink<W>
+        ensures puts { result.puts ≡ 0 }
+        ensures faults { result.faults ≡ 0 }
+    {
         StdSink {
             stream,
             puts: 0,
             faults: 0,
         }
     }
-}
 
-impl<W: Write> StdSink<W> {
     /// How many puts there were.
     pub fn puts(&self) -> u64
         ensures { result ≡ self.now.puts }

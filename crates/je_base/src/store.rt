@@ -77,7 +77,8 @@ impl Store {
 
     /// Puts a content at a path, beside the room.
     pub fn add(&mut self, path: &str, content: &[u8]) -> Result<(), Memory>
-        ensures ok { OnOk result (self.new ≡ record self.old { contents = insert self.old.contents path.now content.now }) }
+        ensures ok { OnOk result (self.new
+            ≡ record self.old { contents = insert self.old.contents path.now content.now }) }
         ensures err { OnErr result (self.new ≡ self.old) }
     {
         let writes = self.room_writes.checked_add(1).ok_or(Memory)?;
@@ -119,10 +120,12 @@ impl Store {
 
 /// Adds one write behind the others, for which there is room.
 fn push_file(bytes: &mut Vec<u8>, spans: &mut Vec<Span>, path: &[u8], content: &[u8])
-    requires bytes { vec_len bytes.old + (length path.now + length content.now) ≤ vec_capacity bytes.old }
+    requires bytes { vec_len bytes.old + (length path.now + length content.now)
+        ≤ vec_capacity bytes.old }
     requires spans { vec_len spans.old < vec_capacity spans.old }
     ensures bytes { bytes.new.items ≡ (bytes.old.items ++ path.now) ++ content.now }
-    ensures spans { spans.new.items ≡ spans.old.items ++ span_behind bytes.old.items path.now content.now ∷ [] }
+    ensures spans { spans.new.items
+        ≡ spans.old.items ++ span_behind bytes.old.items path.now content.now ∷ [] }
     ensures bytes_capacity { vec_capacity bytes.old ≤ vec_capacity bytes.new }
     ensures spans_capacity { vec_capacity spans.old ≤ vec_capacity spans.new }
 {
@@ -138,7 +141,8 @@ fn push_file(bytes: &mut Vec<u8>, spans: &mut Vec<Span>, path: &[u8], content: &
 fn last_at(bytes: &[u8], spans: &[Span], path: &[u8]) -> Option<Span>
     requires { AllByRecursion (IsWithin (length bytes.now)) spans.now }
     ensures within { IfSome result (IsWithin (length bytes.now)) }
-    ensures found { option_map (content_at bytes.now) result ≡ get (contents_after bytes.now empty spans.now) path.now }
+    ensures found { option_map (content_at bytes.now) result
+        ≡ get (contents_after bytes.now empty spans.now) path.now }
 {
     let mut found = None;
     for span in spans {

@@ -41,6 +41,10 @@ impl Model for Text {
 
 impl Text {
     /// The text of these bytes, or `None` where they are not in modified UTF-8.
+    ///
+    /// # Errors
+    ///
+    /// `Memory` where memory runs out.
     pub fn from_bytes(alloc: Global, b: &[u8]) -> Result<Option<Text>, Memory>
         ensures text { IfOk result (λ found. IfSome found (λ text. text ≡ b.now)) }
         ensures form { IfOk result (λ found. IfSome found (λ _. IsModifiedUtf8 b.now)) }
@@ -54,6 +58,10 @@ impl Text {
     }
 
     /// The text of a string.
+    ///
+    /// # Errors
+    ///
+    /// `Memory` where memory runs out.
     pub fn of(alloc: Global, s: &str) -> Result<Text, Memory>
         ensures { IfOk result (λ text. text ≡ encoding (chars s.now)) }
     {
@@ -70,6 +78,10 @@ impl Text {
     }
 
     /// The same text once more.
+    ///
+    /// # Errors
+    ///
+    /// `Memory` where memory runs out.
     pub fn copy(&self) -> Result<Text, Memory>
         ensures { IfOk result (λ text. text ≡ self.now) }
     {
@@ -81,6 +93,10 @@ impl Text {
     ///
     /// Its string, where it has one with no character below U+0020, and else its bytes, those from
     /// 20 to 7E as they are and each other one as `\x` and two hexadecimal digits.
+    ///
+    /// # Errors
+    ///
+    /// `Memory` where memory runs out.
     pub fn show(&self) -> Result<String, Memory>
         ensures { IfOk result (λ s. string_bytes s ≡ shown self.now) }
     {

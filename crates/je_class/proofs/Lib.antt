@@ -12,3 +12,6 @@ pub mod OneAnswer
 pub mod SoundParts
 pub mod Grown
 pub mod SummaryFits
+pub mod SomeAnswer
+pub mod Indexed
+pub mod IndexStays

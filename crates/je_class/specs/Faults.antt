@@ -14,5 +14,5 @@ pub data FirstFault (bytes : List ℕ) : ClassFault → Type 0 where
   breaks : (magic : ℕ) (c : Class) (fault : ClassFault) → length bytes ≤ 16777216
       → Breaks class_format bytes 0 (parts magic c) fault → FirstFault bytes fault
   -- a class file, and something behind it
-  trailing : (c : Class) (front rest : List ℕ) → length bytes ≤ 16777216 → bytes ≡ front ++ rest → rest ≢ []
-      → ClassBytes front c → FirstFault bytes (Trailing (length front))
+  trailing : (c : Class) (front rest : List ℕ) → length bytes ≤ 16777216 → bytes ≡ front ++ rest
+      → rest ≢ [] → ClassBytes front c → FirstFault bytes (Trailing (length front))

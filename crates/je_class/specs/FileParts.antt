@@ -1,4 +1,5 @@
--- A class file as its parts, one after the other (JVMS 4.1 and 4.5 to 4.7), each with what is tested of it.
+-- A class file as its parts, one after the other (JVMS 4.1 and 4.5 to 4.7), each with what is
+-- tested of it.
 use Rattle.std.specs.Prelude.{◌≡◌, ℕ, ◌≤◌, ◌⊎◌, List, [], ◌∷◌, ◌++◌, length, IsSomeAnd}
 use Rattle.std.specs.List.{AllByRecursion}
 use Rattle.je_base.specs.Parts as form
@@ -11,7 +12,9 @@ use Rattle.je_consts.specs.Pool.{text_at, IsPool}
 use Rattle.je_consts.specs.Layout.{pool_layout}
 use Rattle.je_desc.specs.Descriptor.{FieldDescriptor}
 use Rattle.je_class.specs.declared.fault.ClassFault.{ClassFault}
-use Rattle.je_class.specs.declared.fault.ClassFault.TheVariants.{Truncated, BadMagic, Version, BadConst, BadIndex, BadDescriptor, BadAttribute, Memory}
+use Rattle.je_class.specs.declared.fault.ClassFault.TheVariants.{Truncated, BadMagic, Version}
+use Rattle.je_class.specs.declared.fault.ClassFault.TheVariants.{BadConst, BadIndex, BadDescriptor}
+use Rattle.je_class.specs.declared.fault.ClassFault.TheVariants.{BadAttribute, Memory}
 use Rattle.je_class.specs.declared.member.Attribute.{Attribute}
 use Rattle.je_class.specs.declared.member.Member.{Member}
 use Rattle.je_class.specs.Class.{Class, IsClassIndex, IsTextIndex, IsDescriptorOf}
@@ -38,7 +41,8 @@ Passes (NamesSuper consts index) = (index ≡ 0) ⊎ IsClassIndex consts index
 Passes (NamesText consts index) = IsTextIndex consts index
 Passes (NamesAttribute consts index) = IsTextIndex consts index
 Passes (DescribesField consts index) = IsSomeAnd (text_at consts index) FieldDescriptor
-Passes (DescribesMethod consts access index) = IsSomeAnd (text_at consts index) (IsDescriptorOf access)
+Passes (DescribesMethod consts access index) =
+    IsSomeAnd (text_at consts index) (IsDescriptorOf access)
 
 -- the fault where it does not pass, by the offset at which the number begins
 abbrev pub fault_of : Test → ℕ → ClassFault
@@ -61,11 +65,13 @@ pool_fault pool.Memory = Memory
 
 -- the first fault of the constant pool that begins at an offset
 abbrev pub IsPoolFault : List ℕ → ℕ → ClassFault → Type 0
-IsPoolFault bytes at fault = (e : ConstFault) × in_pool.FirstFault bytes at e × (fault ≡ pool_fault e)
+IsPoolFault bytes at fault =
+    (e : ConstFault) × in_pool.FirstFault bytes at e × (fault ≡ pool_fault e)
 
 -- ---- the format
 
--- Its parts are numbers with these tests, runs of bytes, and the constant pool, which is the only nested value.
+-- Its parts are numbers with these tests, runs of bytes, and the constant pool, which is the only
+-- nested value.
 abbrev pub class_format : Format Test (List Place) ClassFault
 class_format = record {
   Passes = Passes;
@@ -91,12 +97,14 @@ interface_parts consts index = U2 index (NamesClass consts index ∷ []) ∷ []
 
 -- attribute_info (JVMS 4.7)
 abbrev pub attribute_parts : List Place → Attribute → List Part
-attribute_parts consts a = U2 a.name (NamesAttribute consts a.name ∷ []) ∷ U4 (length a.bytes) [] ∷ Run a.bytes ∷ []
+attribute_parts consts a =
+    U2 a.name (NamesAttribute consts a.name ∷ []) ∷ U4 (length a.bytes) [] ∷ Run a.bytes ∷ []
 
 -- what field_info and method_info have in common, but for the last test of the descriptor
 abbrev pub member_parts : List Place → Test → Member → List Part
 member_parts consts describes m =
-    U2 m.access [] ∷ U2 m.name (NamesText consts m.name ∷ []) ∷ U2 m.descriptor (NamesText consts m.descriptor ∷ describes ∷ [])
+    U2 m.access [] ∷ U2 m.name (NamesText consts m.name ∷ [])
+    ∷ U2 m.descriptor (NamesText consts m.descriptor ∷ describes ∷ [])
     ∷ table_parts (attribute_parts consts) m.attributes
 
 -- field_info (JVMS 4.5)
@@ -114,9 +122,12 @@ abbrev pub parts : ℕ → Class → List Part
 parts magic c =
     U4 magic (IsMagic magic ∷ []) ∷ U2 c.minor [] ∷ U2 c.major (IsVersion c.major ∷ [])
     ∷ Nested c.consts
-    ∷ U2 c.access [] ∷ U2 c.this_class (NamesClass c.consts c.this_class ∷ []) ∷ U2 c.super_class (NamesSuper c.consts c.super_class ∷ [])
-    ∷ (table_parts (interface_parts c.consts) c.interfaces ++ (table_parts (field_parts c.consts) c.fields
-    ++ (table_parts (method_parts c.consts) c.methods ++ table_parts (attribute_parts c.consts) c.attributes)))
+    ∷ U2 c.access [] ∷ U2 c.this_class (NamesClass c.consts c.this_class ∷ [])
+    ∷ U2 c.super_class (NamesSuper c.consts c.super_class ∷ [])
+    ∷ (table_parts (interface_parts c.consts) c.interfaces
+    ++ (table_parts (field_parts c.consts) c.fields
+    ++ (table_parts (method_parts c.consts) c.methods
+    ++ table_parts (attribute_parts c.consts) c.attributes)))
 
 abbrev pub class_parts : Class → List Part
 class_parts c = parts 0xcafe_babe c

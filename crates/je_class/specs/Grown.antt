@@ -18,7 +18,7 @@ IsSameClass old new index = class_at new index ≡ class_at old index
 abbrev pub IsSameAttribute : List Place → List Place → Attribute → Type 0
 IsSameAttribute old new a = IsSameText old new a.name
 
--- the field or method has the same name and the same descriptor, and each of its attributes its name
+-- the field or method has the same name and descriptor, and each of its attributes the same name
 pub record IsSameMember (old new : List Place) (m : Member) : Type 0 where
   pub name : IsSameText old new m.name
   pub descriptor : IsSameText old new m.descriptor

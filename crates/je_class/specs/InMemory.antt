@@ -1,4 +1,5 @@
--- The parts of a class file in memory, and the record that they are.
+-- Serves private functions: the record that the parts of a class file in memory are, as the view of
+-- `ClassFile` has it.
 use Rattle.je_class.specs.declared.parts.Parts.{Parts}
 use Rattle.je_class.specs.Class.{Class}
 

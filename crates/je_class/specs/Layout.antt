@@ -1,4 +1,5 @@
--- The bytes of a class file, structure after structure (JVMS 4.1 and 4.5 to 4.7), as they are put.
+-- Serves private functions: the bytes of a class file as the writer puts them, structure after
+-- structure (JVMS 4.1 and 4.5 to 4.7).
 use Rattle.std.specs.Prelude.{ℕ, ◌^◌, ◌<◌, List, ◌++◌, length}
 use Rattle.std.specs.List.{AllByRecursion}
 use Rattle.je_base.specs.Bytes.{u2, u4, table, attribute_info}
@@ -13,7 +14,8 @@ attribute_layout a = attribute_info a.name a.bytes
 
 -- field_info and method_info (JVMS 4.5 and 4.6)
 abbrev pub member_layout : Member → List ℕ
-member_layout m = u2 m.access ++ (u2 m.name ++ (u2 m.descriptor ++ table attribute_layout m.attributes))
+member_layout m =
+    u2 m.access ++ (u2 m.name ++ (u2 m.descriptor ++ table attribute_layout m.attributes))
 
 -- ClassFile (JVMS 4.1) up to its constant pool, its next three numbers, and its tables
 abbrev pub head_layout : Class → List ℕ
@@ -23,7 +25,10 @@ abbrev pub numbers_layout : Class → List ℕ
 numbers_layout c = u2 c.access ++ (u2 c.this_class ++ u2 c.super_class)
 
 abbrev pub tables_layout : Class → List ℕ
-tables_layout c = table u2 c.interfaces ++ (table member_layout c.fields ++ (table member_layout c.methods ++ table attribute_layout c.attributes))
+tables_layout c =
+    table u2 c.interfaces
+    ++ (table member_layout c.fields
+    ++ (table member_layout c.methods ++ table attribute_layout c.attributes))
 
 abbrev pub class_layout : Class → List ℕ
 class_layout c = head_layout c ++ (numbers_layout c ++ tables_layout c)

@@ -10,3 +10,5 @@ pub mod Signatures
 pub mod Reading
 pub mod Sound
 pub mod Grown
+pub mod Indexed
+pub mod Noted

@@ -1,4 +1,5 @@
--- What a field or a method has to have to be shown by its name and descriptor.
+-- Serves private functions: what a field or a method has to have to be shown by its name and
+-- descriptor.
 use Rattle.std.specs.Prelude.{List}
 use Rattle.je_consts.specs.declared.place.Place.{Place}
 use Rattle.je_class.specs.declared.member.Member.{Member}

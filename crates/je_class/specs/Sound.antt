@@ -1,5 +1,5 @@
--- What holds of every class file in memory, item by item (JVMS 4.1 and 4.5 to 4.7): each number fits
--- its bytes, and each index names what it has to.
+-- What holds of every class file in memory, item by item (JVMS 4.1 and 4.5 to 4.7): each number
+-- fits its bytes, and each index names what it has to.
 use Rattle.std.specs.Prelude.{◌≡◌, ℕ, ◌^◌, ◌<◌, ◌≤◌, ◌⊎◌, List, length, All, IsSomeAnd}
 use Rattle.je_consts.specs.declared.place.Place.{Place}
 use Rattle.je_consts.specs.Pool.{text_at, IsPool}

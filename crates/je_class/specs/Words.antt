@@ -2,7 +2,10 @@
 use Rattle.std.specs.Prelude.{ℕ, List, ◌++◌, codes}
 use Rattle.std.specs.Fmt.{decimal}
 use Rattle.je_class.specs.declared.fault.ClassFault.{ClassFault}
-use Rattle.je_class.specs.declared.fault.ClassFault.TheVariants.{TooLong, Truncated, BadMagic, Version, BadConst, BadIndex, BadDescriptor, BadAttribute, Trailing, Memory}
+use Rattle.je_class.specs.declared.fault.ClassFault.TheVariants.{TooLong, Truncated, BadMagic}
+use Rattle.je_class.specs.declared.fault.ClassFault.TheVariants.{Version, BadConst, BadIndex}
+use Rattle.je_class.specs.declared.fault.ClassFault.TheVariants.{BadDescriptor, BadAttribute}
+use Rattle.je_class.specs.declared.fault.ClassFault.TheVariants.{Trailing, Memory}
 
 abbrev pub fault_words : ClassFault → List ℕ
 fault_words TooLong = codes "too long"

@@ -10,8 +10,9 @@ ghost use Rattle.je_class.specs.FileParts.{Passes, class_format};
 ghost use Rattle.je_class.specs.Reading.{Reads, tests_of, index_parts};
 
 use crate::fault::ClassFault;
+use crate::member::Access;
 use je_base::u16_at;
-use je_consts::Consts;
+use je_consts::{ConstIndex, Consts};
 use je_desc::{is_class_name, is_field, units};
 
 /// The access flag of a static method (JVMS table 4.6-A).
@@ -36,7 +37,7 @@ pub(crate) enum Sought {
     MethodDescriptor(u16),
 }
 
-fn names_class(consts: &Consts, index: u16) -> bool
+fn names_class(consts: &Consts, index: ConstIndex) -> bool
     ensures { IsTrue result ↔ IsClassIndex consts.now index }
 {
     match consts.class_name(index) {
@@ -46,19 +47,19 @@ fn names_class(consts: &Consts, index: u16) -> bool
 }
 
 /// Whether the index is 0 or that of a class that is no array.
-fn names_super(consts: &Consts, index: u16) -> bool
+fn names_super(consts: &Consts, index: ConstIndex) -> bool
     ensures { IsTrue result ↔ (index ≡ 0) ⊎ IsClassIndex consts.now index }
 {
     index == 0 || names_class(consts, index)
 }
 
-fn names_text(consts: &Consts, index: u16) -> bool
+fn names_text(consts: &Consts, index: ConstIndex) -> bool
     ensures { IsTrue result ↔ IsTextIndex consts.now index }
 {
     consts.text(index).is_some()
 }
 
-fn describes_field(consts: &Consts, index: u16) -> bool
+fn describes_field(consts: &Consts, index: ConstIndex) -> bool
     ensures { IsTrue result ↔ IsSomeAnd (text_at consts.now index) FieldDescriptor }
 {
     match consts.text(index) {
@@ -68,7 +69,7 @@ fn describes_field(consts: &Consts, index: u16) -> bool
 }
 
 /// Whether the bytes are the descriptor of a method with these access flags.
-fn is_descriptor_of(access: u16, bytes: &[u8]) -> bool
+fn is_descriptor_of(access: Access, bytes: &[u8]) -> bool
     ensures { IsTrue result ↔ IsDescriptorOf access bytes.now }
 {
     match units(bytes) {
@@ -77,7 +78,7 @@ fn is_descriptor_of(access: u16, bytes: &[u8]) -> bool
     }
 }
 
-fn describes_method(consts: &Consts, access: u16, index: u16) -> bool
+fn describes_method(consts: &Consts, access: Access, index: ConstIndex) -> bool
     ensures { IsTrue result ↔ IsSomeAnd (text_at consts.now index) (IsDescriptorOf access) }
 {
     match consts.text(index) {
@@ -95,7 +96,7 @@ fn unless(passes: bool, fault: ClassFault) -> Option<ClassFault>
 }
 
 /// The fault of the index at an offset, where it does not name what it has to.
-fn fault_of(consts: &Consts, names: Sought, index: u16, at: usize) -> Option<ClassFault>
+fn fault_of(consts: &Consts, names: Sought, index: ConstIndex, at: usize) -> Option<ClassFault>
     ensures none { IfNone result (AllByRecursion Passes (tests_of consts.now names index)) }
     ensures some { IfSome result (FailsFirst class_format at (tests_of consts.now names index)) }
 {

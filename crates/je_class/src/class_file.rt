@@ -11,12 +11,12 @@ ghost use Rattle.je_class.specs.Sound.{HasSoundParts};
 ghost use Rattle.je_class.specs.Summed.{IsSummary};
 
 use crate::copying::copy_parts;
-use crate::member::{Attribute, Member};
+use crate::member::{Access, Attribute, Member};
 use crate::named::place_of;
 use crate::parts::Parts;
 use crate::summed::summary_of;
 use je_base::{Memory, Text};
-use je_consts::Consts;
+use je_consts::{ConstIndex, Consts};
 use je_desc::Summary;
 use sqlite_items::Items;
 use std::marker::Model;
@@ -87,28 +87,28 @@ impl ClassFile {
     }
 
     /// The access flags (JVMS table 4.1-A).
-    pub fn access(&self) -> u16
+    pub fn access(&self) -> Access
         ensures { result ≡ self.now.access }
     {
         self.parts.access
     }
 
     /// The index of the class itself in the constant pool.
-    pub fn this_class(&self) -> u16
+    pub fn this_class(&self) -> ConstIndex
         ensures { result ≡ self.now.this_class }
     {
         self.parts.this_class
     }
 
     /// The index of the super class in the constant pool, or 0.
-    pub fn super_class(&self) -> u16
+    pub fn super_class(&self) -> ConstIndex
         ensures { result ≡ self.now.super_class }
     {
         self.parts.super_class
     }
 
     /// The indexes of the interfaces in the constant pool, in the order of the file.
-    pub fn interfaces(&self) -> &[u16]
+    pub fn interfaces(&self) -> &[ConstIndex]
         ensures { result.now ≡ self.now.interfaces }
     {
         &self.parts.interfaces
@@ -176,6 +176,10 @@ impl ClassFile {
     }
 
     /// The same class file once more.
+    ///
+    /// # Errors
+    ///
+    /// `Memory` where memory runs out.
     pub fn copy(&self) -> Result<ClassFile, Memory>
         ensures { IfOk result (λ c. c ≡ self.now) }
     {
@@ -184,6 +188,10 @@ impl ClassFile {
     }
 
     /// The class as other classes see it.
+    ///
+    /// # Errors
+    ///
+    /// `Memory` where memory runs out.
     pub fn summary(&self) -> Result<Summary, Memory>
         ensures summary { IfOk result (IsSummary self.now) }
 

@@ -12,6 +12,7 @@ mod fault;
 mod laws;
 mod member;
 mod members;
+mod method_index;
 mod named;
 mod parts;
 mod reading;
@@ -21,7 +22,8 @@ mod writing;
 
 pub use class_file::ClassFile;
 pub use fault::{ClassFault, MOST_BYTES};
-pub use laws::{names_stay, one_class};
-pub use member::{Attribute, Member};
+pub use laws::{index_stays, names_stay, one_class};
+pub use member::{Access, Attribute, Member};
+pub use method_index::MethodIndex;
 pub use reading::read_class;
 pub use writing::write_class;

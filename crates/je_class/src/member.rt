@@ -1,10 +1,22 @@
+//! Fields, methods and attributes in memory.
+
+use je_consts::ConstIndex;
 use sqlite_items::Items;
+
+/// Access flags and properties (JVMS tables 4.1-B, 4.5-A and 4.6-A).
+pub type Access = u16;
+
+/// The least bytes of an attribute: the index of its name, and the count of its bytes.
+pub(crate) const LEAST_ATTRIBUTE: usize = 6;
+
+/// The least bytes of a field or a method: three numbers, and the count of its attributes.
+pub(crate) const LEAST_MEMBER: usize = 8;
 
 /// An attribute (JVMS 4.7), whose content is kept as bytes.
 #[derive(Debug, Drop)]
 pub struct Attribute {
     /// The index of its name in the constant pool.
-    pub name: u16,
+    pub name: ConstIndex,
     /// At most 4,294,967,295 bytes.
     pub bytes: Items<u8>,
 }
@@ -13,11 +25,11 @@ pub struct Attribute {
 #[derive(Debug, Drop)]
 pub struct Member {
     /// The access flags.
-    pub access: u16,
+    pub access: Access,
     /// The index of its name in the constant pool.
-    pub name: u16,
+    pub name: ConstIndex,
     /// The index of its descriptor in the constant pool.
-    pub descriptor: u16,
+    pub descriptor: ConstIndex,
     /// At most 65,535 attributes.
     pub attributes: Items<Attribute>,
 }

@@ -1,18 +1,21 @@
 //! The tables of a class file: its interfaces, fields, methods and attributes (JVMS 4.1 and 4.5 to
 //! 4.7).
 
-ghost use Rattle.std.specs.Prelude.{◌≡◌};
+ghost use Rattle.std.specs.Prelude.{◌≡◌, ◌*◌, ◌<◌, ◌≤◌, length};
 ghost use Rattle.je_base.specs.Parts.{table_parts};
 ghost use Rattle.je_class.specs.FileParts.{interface_parts, attribute_parts};
 ghost use Rattle.je_class.specs.Reading.{Reads, descriptor_of, parts_of_kind};
 
 use crate::check::{Sought, index_at};
 use crate::fault::ClassFault;
-use crate::member::{Attribute, Member};
+use crate::member::{Access, Attribute, LEAST_ATTRIBUTE, LEAST_MEMBER, Member};
 use je_base::{run_at, u16_at, u32_at};
 use je_consts::Consts;
 use sqlite_items::Items;
 use std::alloc::Global;
+
+/// The bytes of an interface.
+const INTERFACE: usize = 2;
 
 /// What the members of a table are.
 #[derive(Clone, Copy, Debug)]
@@ -22,13 +25,24 @@ pub(crate) enum Kind {
 }
 
 /// What the index of a member's descriptor has to name.
-fn descriptor_of(kind: Kind, access: u16) -> Sought
+fn descriptor_of(kind: Kind, access: Access) -> Sought
     ensures { result ≡ descriptor_of kind access }
 {
     match kind {
         Kind::Fields => Sought::FieldDescriptor,
         Kind::Methods => Sought::MethodDescriptor(access),
     }
+}
+
+/// Room for the items of a table: as many as its count says, but no more than the bytes from an
+/// offset on hold where each has so many at least.
+fn room_of(count: u16, bytes: &[u8], at: usize, least: usize) -> usize
+    requires { 0 < least }
+    ensures count { result ≤ count }
+    ensures bytes { result * least ≤ length bytes.now }
+{
+    let left = bytes.len().saturating_sub(at);
+    usize::from(count).min(left / least)
 }
 
 /// The interfaces of a class, and the offset after them.
@@ -38,10 +52,12 @@ pub(crate) fn interfaces_at(
     bytes: &[u8],
     at: usize,
 ) -> Result<(Vec<u16>, usize), ClassFault>
-    ensures { Reads (λ x. (x.0.items, x.1)) bytes.now at (table_parts (interface_parts consts.now)) result }
+    ensures { Reads (λ x. (x.0.items, x.1)) bytes.now at
+        (table_parts (interface_parts consts.now)) result }
 {
     let (count, start) = u16_at(bytes, at)?;
-    let mut interfaces = Vec::new(alloc);
+    let room = room_of(count, bytes, start, INTERFACE);
+    let mut interfaces = Vec::with_capacity(alloc, room)?;
     let mut next = start;
     for _ in 0..count {
         let (index, after) = index_at(consts, Sought::Class, bytes, next)?;
@@ -73,10 +89,12 @@ pub(crate) fn attributes_at(
     bytes: &[u8],
     at: usize,
 ) -> Result<(Vec<Attribute>, usize), ClassFault>
-    ensures { Reads (λ x. (x.0.items, x.1)) bytes.now at (table_parts (attribute_parts consts.now)) result }
+    ensures { Reads (λ x. (x.0.items, x.1)) bytes.now at
+        (table_parts (attribute_parts consts.now)) result }
 {
     let (count, start) = u16_at(bytes, at)?;
-    let mut attributes = Vec::new(alloc);
+    let room = room_of(count, bytes, start, LEAST_ATTRIBUTE);
+    let mut attributes = Vec::with_capacity(alloc, room)?;
     let mut next = start;
     for _ in 0..count {
         let (attribute, after) = attribute_at(alloc, consts, bytes, next)?;
@@ -116,10 +134,12 @@ pub(crate) fn members_at(
     bytes: &[u8],
     at: usize,
 ) -> Result<(Vec<Member>, usize), ClassFault>
-    ensures { Reads (λ x. (x.0.items, x.1)) bytes.now at (table_parts (parts_of_kind consts.now kind)) result }
+    ensures { Reads (λ x. (x.0.items, x.1)) bytes.now at
+        (table_parts (parts_of_kind consts.now kind)) result }
 {
     let (count, start) = u16_at(bytes, at)?;
-    let mut members = Vec::new(alloc);
+    let room = room_of(count, bytes, start, LEAST_MEMBER);
+    let mut members = Vec::with_capacity(alloc, room)?;
     let mut next = start;
     for _ in 0..count {
         let (member, after) = member_at(alloc, consts, kind, bytes, next)?;

@@ -5,10 +5,10 @@ ghost use Rattle.je_consts.specs.Pool.{text_at};
 ghost use Rattle.je_class.specs.Class.{IsNamed};
 
 use crate::member::Member;
-use je_consts::Consts;
+use je_consts::{ConstIndex, Consts};
 
 /// Whether the text at an index has these bytes.
-fn has_text(consts: &Consts, index: u16, bytes: &[u8]) -> bool
+fn has_text(consts: &Consts, index: ConstIndex, bytes: &[u8]) -> bool
     ensures { IsTrue result ↔ (text_at consts.now index ≡ Some bytes.now) }
 {
     match consts.text(index) {
@@ -30,10 +30,12 @@ pub(crate) fn place_of(
     descriptor: &[u8],
     methods: &[Member],
 ) -> Option<usize>
-    ensures here { IfSome result (λ at. IsSomeAnd (slice_get methods.now at) (IsNamed consts.now name.now descriptor.now)) }
+    ensures here { IfSome result (λ at. IsSomeAnd (slice_get methods.now at)
+        (IsNamed consts.now name.now descriptor.now)) }
     ensures first { IfSome result (λ at. (i : ℕ) → i < at →
         IfSome (slice_get methods.now i) (λ m. IsNamed consts.now name.now descriptor.now m → ⊥)) }
-    ensures none { IfNone result (All (λ m. IsNamed consts.now name.now descriptor.now m → ⊥) methods.now) }
+    ensures none { IfNone result
+        (All (λ m. IsNamed consts.now name.now descriptor.now m → ⊥) methods.now) }
 {
     for (at, method) in methods.iter().enumerate() {
         if is_named(consts, name, descriptor, method) {

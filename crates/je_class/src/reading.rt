@@ -87,7 +87,8 @@ fn lists_at(
     bytes: &[u8],
     at: usize,
 ) -> Result<(Lists, usize), ClassFault>
-    ensures { Reads (λ x. ((x.0.0.items, x.0.1.items, x.0.2.items, x.0.3.items), x.1)) bytes.now at (lists_parts consts.now) result }
+    ensures { Reads (λ x. ((x.0.0.items, x.0.1.items, x.0.2.items, x.0.3.items), x.1)) bytes.now at
+        (lists_parts consts.now) result }
 {
     let (interfaces, at) = interfaces_at(alloc, consts, bytes, at)?;
     let (fields, at) = members_at(alloc, consts, Kind::Fields, bytes, at)?;

@@ -10,7 +10,7 @@ ghost use Rattle.je_class.specs.Summed.{IsNameAt, IsSignature, IsSummary, IsSupe
 use crate::class_file::ClassFile;
 use crate::member::Member;
 use je_base::{Memory, Text};
-use je_consts::Consts;
+use je_consts::{ConstIndex, Consts};
 use je_desc::{MemberSig, Summary};
 use sqlite_items::Items;
 use std::alloc::Global;
@@ -24,14 +24,14 @@ fn super_of(class: &ClassFile) -> Result<Option<Text>, Memory>
     }
 }
 
-fn name_of(consts: &Consts, index: u16) -> Result<Text, Memory>
+fn name_of(consts: &Consts, index: ConstIndex) -> Result<Text, Memory>
     requires { IsClassIndex consts.now index }
     ensures { IfOk result (IsNameAt consts.now index) }
 {
     consts.class_name(index).unwrap().copy()
 }
 
-fn names_of(alloc: Global, consts: &Consts, indexes: &[u16]) -> Result<Items<Text>, Memory>
+fn names_of(alloc: Global, consts: &Consts, indexes: &[ConstIndex]) -> Result<Items<Text>, Memory>
     requires { AllByRecursion (IsClassIndex consts.now) indexes.now }
     ensures { IfOk result (AllZip (IsNameAt consts.now) indexes.now) }
 {
@@ -42,7 +42,7 @@ fn names_of(alloc: Global, consts: &Consts, indexes: &[u16]) -> Result<Items<Tex
     Ok(Items::from_vec(names))
 }
 
-fn text_of(consts: &Consts, index: u16) -> Result<Text, Memory>
+fn text_of(consts: &Consts, index: ConstIndex) -> Result<Text, Memory>
     requires { IsTextIndex consts.now index }
     ensures { IfOk result (λ text. text_at consts.now index ≡ Some text) }
 {

@@ -2,28 +2,21 @@
 
 ghost use Rattle.std.specs.Prelude.{◌≡◌, ℕ, ◌^◌, ◌<◌, List, ◌++◌, length, IfOk, OnOk};
 ghost use Rattle.je_base.specs.Bytes.{u2, table};
-ghost use Rattle.je_consts.specs.Layout.{pool_layout};
 ghost use Rattle.je_class.specs.ClassBytes.{ClassBytes};
 ghost use Rattle.je_class.specs.InMemory.{class_of_parts};
 ghost use Rattle.je_class.specs.Layout.{attribute_layout, member_layout, head_layout, numbers_layout, tables_layout, class_layout, FitsTable, FitsAttribute, FitsMember, FitsClass};
 
 use crate::class_file::ClassFile;
-use crate::member::{Attribute, Member};
+use crate::member::{Attribute, LEAST_ATTRIBUTE, LEAST_MEMBER, Member};
 use crate::parts::Parts;
 use je_base::{Memory, put_u16, put_u32};
-use je_consts::Consts;
 use std::alloc::Global;
 
 /// The first bytes of each class file.
 const MAGIC: u32 = 0xcafe_babe;
 
-fn put_consts(out: &mut Vec<u8>, consts: &Consts) -> Result<(), Memory>
-    ensures { OnOk result (out.new.items ≡ out.old.items ++ pool_layout consts.now) }
-{
-    let bytes = consts.write()?;
-    out.extend_from_slice(&bytes)?;
-    Ok(())
-}
+/// The bytes of the access flags, two indexes and the counts of four tables.
+const CLASS_NUMBERS: usize = 14;
 
 fn put_interfaces(out: &mut Vec<u8>, indexes: &[u16]) -> Result<(), Memory>
     requires { length indexes.now < 2 ^ 16 }
@@ -80,19 +73,55 @@ fn put_members(out: &mut Vec<u8>, members: &[Member]) -> Result<(), Memory>
     Ok(())
 }
 
+/// The bytes of the attributes behind their count, or the greatest number.
+fn attributes_size(attributes: &[Attribute]) -> usize {
+    let mut size: usize = 0;
+    for attribute in attributes {
+        size = size
+            .saturating_add(LEAST_ATTRIBUTE)
+            .saturating_add(attribute.bytes.len());
+    }
+    size
+}
+
+/// The bytes of the fields or methods behind their count, or the greatest number.
+fn members_size(members: &[Member]) -> usize {
+    let mut size: usize = 0;
+    for member in members {
+        let attributes = attributes_size(member.attributes.as_slice());
+        size = size.saturating_add(LEAST_MEMBER).saturating_add(attributes);
+    }
+    size
+}
+
+/// Makes room for what stands behind the constant pool.
+fn make_room(out: &mut Vec<u8>, parts: &Parts) -> Result<(), Memory>
+    ensures { out.new.items ≡ out.old.items }
+{
+    let size = CLASS_NUMBERS
+        .saturating_add(parts.interfaces.len().saturating_mul(2))
+        .saturating_add(members_size(&parts.fields))
+        .saturating_add(members_size(&parts.methods))
+        .saturating_add(attributes_size(&parts.attributes));
+    out.reserve(size)?;
+    Ok(())
+}
+
 /// What stands before the access flags.
 fn put_head(out: &mut Vec<u8>, parts: &Parts) -> Result<(), Memory>
-    ensures { OnOk result (out.new.items ≡ out.old.items ++ head_layout (class_of_parts parts.now)) }
+    ensures { OnOk result
+        (out.new.items ≡ out.old.items ++ head_layout (class_of_parts parts.now)) }
 {
     put_u32(out, MAGIC)?;
     put_u16(out, parts.minor)?;
     put_u16(out, parts.major)?;
-    put_consts(out, &parts.consts)
+    parts.consts.write_to(out)
 }
 
 /// The access flags, and the indexes of the class and of the super class.
 fn put_numbers(out: &mut Vec<u8>, parts: &Parts) -> Result<(), Memory>
-    ensures { OnOk result (out.new.items ≡ out.old.items ++ numbers_layout (class_of_parts parts.now)) }
+    ensures { OnOk result
+        (out.new.items ≡ out.old.items ++ numbers_layout (class_of_parts parts.now)) }
 {
     put_u16(out, parts.access)?;
     put_u16(out, parts.this_class)?;
@@ -101,7 +130,8 @@ fn put_numbers(out: &mut Vec<u8>, parts: &Parts) -> Result<(), Memory>
 
 fn put_tables(out: &mut Vec<u8>, parts: &Parts) -> Result<(), Memory>
     requires { FitsClass (class_of_parts parts.now) }
-    ensures { OnOk result (out.new.items ≡ out.old.items ++ tables_layout (class_of_parts parts.now)) }
+    ensures { OnOk result
+        (out.new.items ≡ out.old.items ++ tables_layout (class_of_parts parts.now)) }
 {
     put_interfaces(out, &parts.interfaces)?;
     put_members(out, &parts.fields)?;
@@ -111,9 +141,11 @@ fn put_tables(out: &mut Vec<u8>, parts: &Parts) -> Result<(), Memory>
 
 fn put_parts(out: &mut Vec<u8>, parts: &Parts) -> Result<(), Memory>
     requires { FitsClass (class_of_parts parts.now) }
-    ensures { OnOk result (out.new.items ≡ out.old.items ++ class_layout (class_of_parts parts.now)) }
+    ensures { OnOk result
+        (out.new.items ≡ out.old.items ++ class_layout (class_of_parts parts.now)) }
 {
     put_head(out, parts)?;
+    make_room(out, parts)?;
     put_numbers(out, parts)?;
     put_tables(out, parts)
 }

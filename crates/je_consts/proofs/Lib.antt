@@ -12,3 +12,4 @@ pub mod ExactLemmas
 pub mod OneAnswer
 pub mod OneAdd
 pub mod IndexLemmas
+pub mod ThereLemmas

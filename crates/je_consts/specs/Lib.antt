@@ -1,3 +1,4 @@
+pub mod Tags
 pub mod Pool
 pub mod Layout
 pub mod Reading

@@ -1,34 +1,46 @@
 -- The constant pool as the list of its places, and what its indexes name (JVMS 4.4).
 --
--- There is a place for each index from 1 on: an entry, or the second of the two indexes of a Long or Double.
-use Rattle.std.specs.Prelude.{◌≡◌, ℕ, zero, suc, ◌+◌, ◌^◌, ◌<◌, ◌≤◌, Bool, true, false, List, [], ◌∷◌, length, Option, Some, None, IsSomeAnd, IfSome, option_and_then, slice_get, FitsSigned}
+-- There is a place for each index from 1 on: an entry, or the second of the two indexes of a Long
+-- or Double.
+use Rattle.std.specs.Prelude.{◌≡◌, ℕ, zero, suc, ◌+◌, ◌^◌, ◌<◌, ◌≤◌, Bool, true, false}
+use Rattle.std.specs.Prelude.{List, [], ◌∷◌, length, Option, Some, None, IsSomeAnd, IfSome}
+use Rattle.std.specs.Prelude.{option_and_then, slice_get, FitsSigned}
 use Rattle.std.specs.Option.{option_map}
 use Rattle.std.specs.List.{AllByRecursion}
 use Rattle.std.specs.Int.{w32, w64}
 use Rattle.je_base.specs.Text.{IsModifiedUtf8}
 use Rattle.je_consts.specs.declared.constant.Const.{Const}
-use Rattle.je_consts.specs.declared.constant.Const.TheVariants.{Utf8, Integer, Float, Long, Double, Class, Str, Field, Method, InterfaceMethod, NameAndType, MethodHandle, MethodType, InvokeDynamic}
+use Rattle.je_consts.specs.declared.constant.Const.TheVariants.{Utf8, Integer, Float, Long, Double}
+use Rattle.je_consts.specs.declared.constant.Const.TheVariants.{Class, Str, Field, Method}
+use Rattle.je_consts.specs.declared.constant.Const.TheVariants.{InterfaceMethod, NameAndType}
+use Rattle.je_consts.specs.declared.constant.Const.TheVariants.{MethodHandle, MethodType}
+use Rattle.je_consts.specs.declared.constant.Const.TheVariants.{InvokeDynamic}
 use Rattle.je_consts.specs.declared.constant.MemberTag.{MemberTag}
 use Rattle.je_consts.specs.declared.constant.MemberTag.TheVariants as tags
 use Rattle.je_consts.specs.declared.place.Place.{Place}
 use Rattle.je_consts.specs.declared.place.Place.TheVariants.{Entry, Second}
+use Rattle.je_consts.specs.Tags.{CONSTANT_Utf8, CONSTANT_Integer, CONSTANT_Float, CONSTANT_Long}
+use Rattle.je_consts.specs.Tags.{CONSTANT_Double, CONSTANT_Class, CONSTANT_String}
+use Rattle.je_consts.specs.Tags.{CONSTANT_Fieldref, CONSTANT_Methodref, CONSTANT_InterfaceMethodref}
+use Rattle.je_consts.specs.Tags.{CONSTANT_NameAndType, CONSTANT_MethodHandle, CONSTANT_MethodType}
+use Rattle.je_consts.specs.Tags.{CONSTANT_InvokeDynamic, IsKind}
 
--- the tag of an entry (JVMS table 4.4-A)
+-- the tag of an entry (JVMS 4.4, Table 4.4-A)
 abbrev pub tag : Const → ℕ
-tag (Utf8 text) = 1
-tag (Integer n) = 3
-tag (Float bits) = 4
-tag (Long n) = 5
-tag (Double bits) = 6
-tag (Class name) = 7
-tag (Str text) = 8
-tag (Field class member) = 9
-tag (Method class member) = 10
-tag (InterfaceMethod class member) = 11
-tag (NameAndType name descriptor) = 12
-tag (MethodHandle kind member) = 15
-tag (MethodType descriptor) = 16
-tag (InvokeDynamic bootstrap member) = 18
+tag (Utf8 text) = CONSTANT_Utf8
+tag (Integer n) = CONSTANT_Integer
+tag (Float bits) = CONSTANT_Float
+tag (Long n) = CONSTANT_Long
+tag (Double bits) = CONSTANT_Double
+tag (Class name) = CONSTANT_Class
+tag (Str text) = CONSTANT_String
+tag (Field class member) = CONSTANT_Fieldref
+tag (Method class member) = CONSTANT_Methodref
+tag (InterfaceMethod class member) = CONSTANT_InterfaceMethodref
+tag (NameAndType name descriptor) = CONSTANT_NameAndType
+tag (MethodHandle kind member) = CONSTANT_MethodHandle
+tag (MethodType descriptor) = CONSTANT_MethodType
+tag (InvokeDynamic bootstrap member) = CONSTANT_InvokeDynamic
 
 -- Long and Double take two indexes (JVMS 4.4.5)
 abbrev pub is_wide : Const → Bool
@@ -76,53 +88,73 @@ class_at places i = option_and_then (class_of places) (const_at places i)
 -- the CONSTANT_NameAndType at an index names this name and this descriptor
 abbrev pub NamesAndTypes : List Place → ℕ → List ℕ → List ℕ → Type 0
 NamesAndTypes places i name descriptor =
-    (n : ℕ) × (d : ℕ) × (const_at places i ≡ Some (NameAndType n d)) × (text_at places n ≡ Some name) × (text_at places d ≡ Some descriptor)
+    (n : ℕ) × (d : ℕ) × (const_at places i ≡ Some (NameAndType n d))
+    × (text_at places n ≡ Some name) × (text_at places d ≡ Some descriptor)
 
 -- the name and the descriptor of the CONSTANT_NameAndType at an index (JVMS 4.4.6)
 abbrev pub name_and_type_of : List Place → Const → Option (List ℕ × List ℕ)
 name_and_type_of places (NameAndType name descriptor) =
-    option_and_then (λ n. option_and_then (λ d. Some (n, d)) (text_at places descriptor)) (text_at places name)
+    option_and_then (λ n. option_and_then (λ d. Some (n, d)) (text_at places descriptor))
+    (text_at places name)
 name_and_type_of places _ = None
 
 abbrev pub name_and_type_at : List Place → ℕ → Option (List ℕ × List ℕ)
 name_and_type_at places i = option_and_then (name_and_type_of places) (const_at places i)
 
 -- the class's name, and the name and the descriptor of the CONSTANT_NameAndType, at these indexes
-abbrev pub named_member : MemberTag → List Place → ℕ → ℕ → Option (MemberTag × List ℕ × List ℕ × List ℕ)
+abbrev pub named_member :
+    MemberTag → List Place → ℕ → ℕ → Option (MemberTag × List ℕ × List ℕ × List ℕ)
 named_member kind places class member =
-    option_and_then (λ o. option_and_then (λ m. Some (kind, o, m.0, m.1)) (name_and_type_at places member)) (class_at places class)
+    option_and_then
+    (λ o. option_and_then (λ m. Some (kind, o, m.0, m.1)) (name_and_type_at places member))
+    (class_at places class)
 
 abbrev pub member_of_entry : List Place → Const → Option (MemberTag × List ℕ × List ℕ × List ℕ)
 member_of_entry places (Field class member) = named_member tags.Field places class member
 member_of_entry places (Method class member) = named_member tags.Method places class member
-member_of_entry places (InterfaceMethod class member) = named_member tags.InterfaceMethod places class member
+member_of_entry places (InterfaceMethod class member) =
+    named_member tags.InterfaceMethod places class member
 member_of_entry places _ = None
 
--- the field or method at an index: which of the three structures, the name of its class, its name and its descriptor
--- (JVMS 4.4.2)
+-- the field or method at an index: which of the three structures, the name of its class, its name
+-- and its descriptor (JVMS 4.4.2)
 abbrev pub member_at : List Place → ℕ → Option (MemberTag × List ℕ × List ℕ × List ℕ)
 member_at places i = option_and_then (member_of_entry places) (const_at places i)
 
 -- a field, a method or an interface's method
 abbrev pub IsMemberTag : ℕ → Type 0
-IsMemberTag t = (9 ≤ t) × (t ≤ 11)
+IsMemberTag t = (CONSTANT_Fieldref ≤ t) × (t ≤ CONSTANT_InterfaceMethodref)
 
--- Each index in the entry names an entry of a tag that fits (JVMS 4.4.1 to 4.4.10). The number of a bootstrap method
--- is no index of the pool.
+-- what has to stand at an index that an entry names
+abbrev pub IsUtf8At : List Place → ℕ → Type 0
+IsUtf8At places i = tag_at places i ≡ Some CONSTANT_Utf8
+
+abbrev pub IsClassAt : List Place → ℕ → Type 0
+IsClassAt places i = tag_at places i ≡ Some CONSTANT_Class
+
+abbrev pub IsNameAndTypeAt : List Place → ℕ → Type 0
+IsNameAndTypeAt places i = tag_at places i ≡ Some CONSTANT_NameAndType
+
+abbrev pub IsMemberAt : List Place → ℕ → Type 0
+IsMemberAt places i = IsSomeAnd (tag_at places i) IsMemberTag
+
+-- Each index in the entry names an entry of a tag that fits (JVMS 4.4.1 to 4.4.10). The number of a
+-- bootstrap method is no index of the pool.
 abbrev pub Names : List Place → Const → Type 0
-Names places (Class name) = tag_at places name ≡ Some 1
-Names places (Str text) = tag_at places text ≡ Some 1
-Names places (Field class member) = (tag_at places class ≡ Some 7) × (tag_at places member ≡ Some 12)
-Names places (Method class member) = (tag_at places class ≡ Some 7) × (tag_at places member ≡ Some 12)
-Names places (InterfaceMethod class member) = (tag_at places class ≡ Some 7) × (tag_at places member ≡ Some 12)
-Names places (NameAndType name descriptor) = (tag_at places name ≡ Some 1) × (tag_at places descriptor ≡ Some 1)
-Names places (MethodHandle kind member) = IsSomeAnd (tag_at places member) IsMemberTag
-Names places (MethodType descriptor) = tag_at places descriptor ≡ Some 1
-Names places (InvokeDynamic bootstrap member) = tag_at places member ≡ Some 12
+Names places (Class name) = IsUtf8At places name
+Names places (Str text) = IsUtf8At places text
+Names places (Field class member) = IsClassAt places class × IsNameAndTypeAt places member
+Names places (Method class member) = IsClassAt places class × IsNameAndTypeAt places member
+Names places (InterfaceMethod class member) =
+    IsClassAt places class × IsNameAndTypeAt places member
+Names places (NameAndType name descriptor) = IsUtf8At places name × IsUtf8At places descriptor
+Names places (MethodHandle kind member) = IsMemberAt places member
+Names places (MethodType descriptor) = IsUtf8At places descriptor
+Names places (InvokeDynamic bootstrap member) = IsNameAndTypeAt places member
 Names places _ = Unit {0}
 
--- Each number of the entry fits the bytes that it is written in, a text has at most 65,535 bytes and is in modified
--- UTF-8 (JVMS 4.4.7), and a kind is 1 to 9 (JVMS 4.4.8).
+-- Each number of the entry fits the bytes that it is written in, a text has at most 65,535 bytes
+-- and is in modified UTF-8 (JVMS 4.4.7), and a kind is 1 to 9 (JVMS 4.4.8).
 abbrev pub Fits : Const → Type 0
 Fits (Utf8 text) = (length text < 2 ^ 16) × IsModifiedUtf8 text
 Fits (Integer n) = FitsSigned w32 n
@@ -135,7 +167,7 @@ Fits (Field class member) = (class < 2 ^ 16) × (member < 2 ^ 16)
 Fits (Method class member) = (class < 2 ^ 16) × (member < 2 ^ 16)
 Fits (InterfaceMethod class member) = (class < 2 ^ 16) × (member < 2 ^ 16)
 Fits (NameAndType name descriptor) = (name < 2 ^ 16) × (descriptor < 2 ^ 16)
-Fits (MethodHandle kind member) = ((1 ≤ kind) × (kind ≤ 9)) × (member < 2 ^ 16)
+Fits (MethodHandle kind member) = IsKind kind × (member < 2 ^ 16)
 Fits (MethodType descriptor) = descriptor < 2 ^ 16
 Fits (InvokeDynamic bootstrap member) = (bootstrap < 2 ^ 16) × (member < 2 ^ 16)
 
@@ -149,13 +181,15 @@ abbrev pub leads_second : Place → Bool
 leads_second (Entry c) = is_wide c
 leads_second Second = false
 
--- A Second stands exactly after each Long and Double. `wide` says that one stands before these places.
+-- A Second stands exactly after each Long and Double. `wide` says that one stands before these
+-- places.
 abbrev pub IsSpaced : Bool → List Place → Type 0
 IsSpaced wide [] = wide ≡ false
 IsSpaced wide (Entry c ∷ places) = (wide ≡ false) × IsSpaced (is_wide c) places
 IsSpaced wide (Second ∷ places) = (wide ≡ true) × IsSpaced false places
 
--- The places of a constant pool (JVMS 4.4). The count in the file is one more than their number (JVMS 4.1).
+-- The places of a constant pool (JVMS 4.4). The count in the file is one more than their number
+-- (JVMS 4.1).
 pub record IsPool (places : List Place) : Type 0 where
   pub fits : AllByRecursion (OfEntry Fits) places
   pub spaced : IsSpaced false places

@@ -1,16 +1,28 @@
--- Reading from left to right. What is read is a value and the offset after it, or the first fault.
-use Rattle.std.specs.Prelude.{◌≡◌, ℕ, zero, suc, ◌+◌, ◌-◌, Bool, true, false, ◌&&◌, List, [], ◌∷◌, length, take, drop, Result, Ok, Err, nat_lt, nat_le, ◌==◌, if◌then◌else◌}
+-- Serves private functions: reading from left to right, to a value and an offset, or to a fault.
+use Rattle.std.specs.Prelude.{◌≡◌, ℕ, zero, suc, ◌+◌, ◌-◌, Bool, true, false, ◌&&◌, List, [], ◌∷◌}
+use Rattle.std.specs.Prelude.{length, take, drop, Result, Ok, Err, nat_lt, nat_le, ◌==◌}
+use Rattle.std.specs.Prelude.{if◌then◌else◌}
 use Rattle.std.specs.Int.{Width, w16, w32, w64, byte_len, from_be_bytes, cast_signed}
 use Rattle.je_consts.specs.declared.fault.ConstFault.{ConstFault}
 use Rattle.je_consts.specs.declared.fault.ConstFault.TheVariants as faults
 use Rattle.je_consts.specs.declared.constant.Const.{Const}
-use Rattle.je_consts.specs.declared.constant.Const.TheVariants.{Utf8, Integer, Float, Long, Double, Class, Str, Field, Method, InterfaceMethod, NameAndType, MethodHandle, MethodType, InvokeDynamic}
+use Rattle.je_consts.specs.declared.constant.Const.TheVariants.{Utf8, Integer, Float, Long, Double}
+use Rattle.je_consts.specs.declared.constant.Const.TheVariants.{Class, Str, Field, Method}
+use Rattle.je_consts.specs.declared.constant.Const.TheVariants.{InterfaceMethod, NameAndType}
+use Rattle.je_consts.specs.declared.constant.Const.TheVariants.{MethodHandle, MethodType}
+use Rattle.je_consts.specs.declared.constant.Const.TheVariants.{InvokeDynamic}
 use Rattle.je_consts.specs.declared.place.Place.{Place}
 use Rattle.je_consts.specs.declared.place.Place.TheVariants.{Entry, Second}
+use Rattle.je_consts.specs.Tags.{CONSTANT_Utf8, CONSTANT_Integer, CONSTANT_Float, CONSTANT_Long}
+use Rattle.je_consts.specs.Tags.{CONSTANT_Double, CONSTANT_Class, CONSTANT_String}
+use Rattle.je_consts.specs.Tags.{CONSTANT_Fieldref, CONSTANT_Methodref, CONSTANT_InterfaceMethodref}
+use Rattle.je_consts.specs.Tags.{CONSTANT_NameAndType, CONSTANT_MethodHandle, CONSTANT_MethodType}
+use Rattle.je_consts.specs.Tags.{CONSTANT_InvokeDynamic, REF_getField, REF_invokeInterface}
 use Rattle.je_consts.specs.Pool.{leads_second}
 
 infixl 10 ◌>>=◌
-abbrev pub ◌>>=◌ : {A B : Type 0} → Result A ConstFault → (A → Result B ConstFault) → Result B ConstFault
+abbrev pub ◌>>=◌ :
+    {A B : Type 0} → Result A ConstFault → (A → Result B ConstFault) → Result B ConstFault
 (Ok x) >>= f = f x
 (Err e) >>= f = Err e
 
@@ -38,7 +50,8 @@ is_text_after zero (b ∷ rest) =
     else if between 0xc0 0xdf b then is_text_after 1 rest
     else if between 0xe0 0xef b then is_text_after 2 rest
     else false
-is_text_after (suc wanted) (b ∷ rest) = if between 0x80 0xbf b then is_text_after wanted rest else false
+is_text_after (suc wanted) (b ∷ rest) =
+    if between 0x80 0xbf b then is_text_after wanted rest else false
 
 unfoldable pub is_text : List ℕ → Bool
 is_text bytes = is_text_after 0 bytes
@@ -98,25 +111,27 @@ utf8_at index bytes at = do
 unfoldable pub handle_at : ℕ → List ℕ → ℕ → Result (Const × ℕ) ConstFault
 handle_at index bytes at = do
   kind ← byte_at bytes at
-  if between 1 9 kind.0 then one_at w16 (MethodHandle kind.0) bytes kind.1 else Err (faults.BadConst index)
+  if between REF_getField REF_invokeInterface kind.0
+      then one_at w16 (MethodHandle kind.0) bytes kind.1
+      else Err (faults.BadConst index)
 
 -- what stands behind the tag of the entry of this index
 unfoldable pub info_at : ℕ → ℕ → List ℕ → ℕ → Result (Const × ℕ) ConstFault
 info_at index tag bytes at =
-    if tag == 1 then utf8_at index bytes at
-    else if tag == 3 then one_at w32 integer_of bytes at
-    else if tag == 4 then one_at w32 Float bytes at
-    else if tag == 5 then one_at w64 long_of bytes at
-    else if tag == 6 then one_at w64 Double bytes at
-    else if tag == 7 then one_at w16 Class bytes at
-    else if tag == 8 then one_at w16 Str bytes at
-    else if tag == 9 then two_at Field bytes at
-    else if tag == 10 then two_at Method bytes at
-    else if tag == 11 then two_at InterfaceMethod bytes at
-    else if tag == 12 then two_at NameAndType bytes at
-    else if tag == 15 then handle_at index bytes at
-    else if tag == 16 then one_at w16 MethodType bytes at
-    else if tag == 18 then two_at InvokeDynamic bytes at
+    if tag == CONSTANT_Utf8 then utf8_at index bytes at
+    else if tag == CONSTANT_Integer then one_at w32 integer_of bytes at
+    else if tag == CONSTANT_Float then one_at w32 Float bytes at
+    else if tag == CONSTANT_Long then one_at w64 long_of bytes at
+    else if tag == CONSTANT_Double then one_at w64 Double bytes at
+    else if tag == CONSTANT_Class then one_at w16 Class bytes at
+    else if tag == CONSTANT_String then one_at w16 Str bytes at
+    else if tag == CONSTANT_Fieldref then two_at Field bytes at
+    else if tag == CONSTANT_Methodref then two_at Method bytes at
+    else if tag == CONSTANT_InterfaceMethodref then two_at InterfaceMethod bytes at
+    else if tag == CONSTANT_NameAndType then two_at NameAndType bytes at
+    else if tag == CONSTANT_MethodHandle then handle_at index bytes at
+    else if tag == CONSTANT_MethodType then one_at w16 MethodType bytes at
+    else if tag == CONSTANT_InvokeDynamic then two_at InvokeDynamic bytes at
     else Err (faults.BadConst index)
 
 unfoldable pub entry_at : ℕ → List ℕ → ℕ → Result (Const × ℕ) ConstFault

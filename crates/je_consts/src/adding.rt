@@ -5,7 +5,7 @@ ghost use Rattle.je_consts.specs.Adding.{IsLawful, IsMissing, IsLeastIndex};
 ghost use Rattle.je_consts.specs.Indexed.{IsIndexOf};
 ghost use Rattle.je_consts.specs.Pool.{places_of, entry_of, Fits};
 
-use crate::constant::Const;
+use crate::constant::{Const, ConstIndex};
 use crate::index::Index;
 use crate::place::Place;
 use crate::reading::is_wide;
@@ -62,7 +62,7 @@ fn holds(place: &Place, entry: &Const) -> bool
 }
 
 /// The least index that holds this entry.
-pub(crate) fn index_of(places: &[Place], entry: &Const) -> Option<u16>
+pub(crate) fn index_of(places: &[Place], entry: &Const) -> Option<ConstIndex>
     requires { length places.now + 1 < 2 ^ 16 }
     ensures some { IfSome result (IsLeastIndex places.now entry.now) }
     ensures none { IfNone result (IsMissing places.now entry.now) }
@@ -85,7 +85,7 @@ fn holds_text(place: &Place, text: &Text) -> bool
 }
 
 /// The least index that holds the Utf8 of this text.
-pub(crate) fn index_of_text(places: &[Place], text: &Text) -> Option<u16>
+pub(crate) fn index_of_text(places: &[Place], text: &Text) -> Option<ConstIndex>
     requires { length places.now + 1 < 2 ^ 16 }
     ensures some { IfSome result (IsLeastIndex places.now (Const.Utf8 text.now)) }
     ensures none { IfNone result (IsMissing places.now (Const.Utf8 text.now)) }

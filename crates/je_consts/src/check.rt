@@ -4,25 +4,17 @@ ghost use Rattle.std.specs.Prelude.{◌+◌, ◌^◌, ◌<◌, ◌↔◌, length
 ghost use Rattle.std.specs.List.{AllByRecursion};
 ghost use Rattle.je_consts.specs.Pool.{tag_at, IsMemberTag, Names, OfEntry, IsLeastMisfit};
 
-use crate::constant::Const;
+use crate::constant::{Const, ConstIndex};
 use crate::lookup::{has_tag, tag_at};
 use crate::place::Place;
-
-/// The tag of a CONSTANT_Utf8.
-const UTF8: u8 = 1;
-
-/// The tag of a CONSTANT_Class.
-const CLASS: u8 = 7;
-
-/// The tag of a CONSTANT_NameAndType.
-const NAME_AND_TYPE: u8 = 12;
+use crate::tags::{CLASS, FIELDREF, INTERFACE_METHODREF, NAME_AND_TYPE, UTF8};
 
 /// Whether the entry at an index is a field, a method or an interface's method.
-fn is_member(places: &[Place], index: u16) -> bool
+fn is_member(places: &[Place], index: ConstIndex) -> bool
     ensures { IsTrue result ↔ IsSomeAnd (tag_at places.now index) IsMemberTag }
 {
     match tag_at(places, index) {
-        Some(tag) => (9..=11).contains(&tag),
+        Some(tag) => (FIELDREF..=INTERFACE_METHODREF).contains(&tag),
         None => false,
     }
 }
@@ -59,7 +51,7 @@ fn place_names(places: &[Place], place: &Place) -> bool
 }
 
 /// The least index whose entry names one that does not fit.
-pub(crate) fn misfit(places: &[Place]) -> Option<u16>
+pub(crate) fn misfit(places: &[Place]) -> Option<ConstIndex>
     requires { length places.now + 1 < 2 ^ 16 }
     ensures some { IfSome result (IsLeastMisfit places.now) }
     ensures none { IfNone result (AllByRecursion (OfEntry (Names places.now)) places.now) }

@@ -4,14 +4,15 @@ ghost use Rattle.std.specs.Prelude.{◌≡◌, ℕ, ◌≤◌, ◌⊎◌, List, 
 ghost use Rattle.je_consts.specs.declared.place.Place.{Place};
 ghost use Rattle.je_consts.specs.Adding.{IsFull, Adds, AddsClass, AddsNameAndType, AddsMember, NamesMember, Keeps, member_of};
 ghost use Rattle.je_consts.specs.Pool.{const_at, class_at, NamesAndTypes};
+ghost use Rattle.je_consts.specs.Tags.{most_bytes};
 
-use crate::constant::{Const, MemberTag};
+use crate::constant::{Const, ConstIndex, MemberTag};
 use crate::consts::Consts;
 use crate::fault::PoolStop;
 use je_base::Text;
 
 /// The entry of a field or method.
-fn member_of(kind: MemberTag, class: u16, member: u16) -> Const
+fn member_of(kind: MemberTag, class: ConstIndex, member: ConstIndex) -> Const
     ensures { result ≡ member_of kind class member }
 {
     match kind {
@@ -22,11 +23,14 @@ fn member_of(kind: MemberTag, class: u16, member: u16) -> Const
 }
 
 impl Consts {
-    /// Adds a text of at most 65,535 bytes. Errors are those of `add`.
+    /// Adds a text of at most 65,535 bytes.
     ///
-    /// A full pool says so even where memory is short, and a text that is there wants no memory.
-    pub fn add_text(&mut self, t: &Text) -> Result<u16, PoolStop>
-        requires { length t.now ≤ 65535 }
+    /// # Errors
+    ///
+    /// Those of `add`. A full pool says so even where memory is short, and a text that is there
+    /// wants no memory.
+    pub fn add_text(&mut self, t: &Text) -> Result<ConstIndex, PoolStop>
+        requires { length t.now ≤ most_bytes }
         ensures adds { Adds (Const.Utf8 t.now) self.old result self.new }
         ensures full { (n : ℕ) → IsFull self.old (Const.Utf8 t.now) n →
             result ≡ Err (PoolStop.Full n) }
@@ -41,9 +45,11 @@ impl Consts {
 
     /// Adds a name of at most 65,535 bytes, and then the class of this name.
     ///
-    /// Errors are those of `add`. After one the name may stand.
-    pub fn add_class(&mut self, name: &Text) -> Result<u16, PoolStop>
-        requires { length name.now ≤ 65535 }
+    /// # Errors
+    ///
+    /// Those of `add`. After one the name may stand.
+    pub fn add_class(&mut self, name: &Text) -> Result<ConstIndex, PoolStop>
+        requires { length name.now ≤ most_bytes }
         ensures adds { AddsClass name.now self.old result self.new }
         // Where an add of the row is refused by a full pool, so is this, unless memory ran out
         // before.
@@ -58,13 +64,14 @@ impl Consts {
     }
 
     /// Adds a name and a descriptor, and then both together.
-    fn add_name_and_type(&mut self, name: &Text, descriptor: &Text) -> Result<u16, PoolStop>
-        requires name { length name.now ≤ 65535 }
-        requires descriptor { length descriptor.now ≤ 65535 }
+    fn add_name_and_type(&mut self, name: &Text, descriptor: &Text) -> Result<ConstIndex, PoolStop>
+        requires name { length name.now ≤ most_bytes }
+        requires descriptor { length descriptor.now ≤ most_bytes }
         ensures adds { AddsNameAndType name.now descriptor.now self.old result self.new }
         // Where an add of the row is refused by a full pool, so is this, unless memory ran out
         // before.
-        ensures full { (n : ℕ) (places : List Place) → AddsNameAndType name.now descriptor.now self.old (Err (PoolStop.Full n)) places →
+        ensures full { (n : ℕ) (places : List Place) →
+            AddsNameAndType name.now descriptor.now self.old (Err (PoolStop.Full n)) places →
             (result ≡ Err (PoolStop.Full n)) ⊎ (result ≡ Err PoolStop.Memory) }
         ensures there { IfOk result (λ index.
             NamesAndTypes self.new index name.now descriptor.now) }
@@ -77,8 +84,11 @@ impl Consts {
 
     /// Adds the class of a field or method, its name and descriptor, and then the member itself.
     ///
-    /// Each text has at most 65,535 bytes. Errors are those of `add`. After one, what was added
-    /// before stands.
+    /// Each text has at most 65,535 bytes.
+    ///
+    /// # Errors
+    ///
+    /// Those of `add`. After one, what was added before stands.
     pub fn add_member(
         &mut self,
         kind: MemberTag,
@@ -86,9 +96,9 @@ impl Consts {
         name: &Text,
         descriptor: &Text,
     ) -> Result<u16, PoolStop>
-        requires owner { length owner.now ≤ 65535 }
-        requires name { length name.now ≤ 65535 }
-        requires descriptor { length descriptor.now ≤ 65535 }
+        requires owner { length owner.now ≤ most_bytes }
+        requires name { length name.now ≤ most_bytes }
+        requires descriptor { length descriptor.now ≤ most_bytes }
         ensures adds { AddsMember kind owner.now name.now descriptor.now self.old result self.new }
         // Where an add of the row is refused by a full pool, so is this, unless memory ran out
         // before.

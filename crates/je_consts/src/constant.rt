@@ -2,9 +2,10 @@
 
 use je_base::Text;
 
+/// An index of a constant pool, from 1 (JVMS 4.1, constant_pool).
+pub type ConstIndex = u16;
+
 /// An entry of the constant pool (JVMS 4.4).
-///
-/// Numbers of type `u16` are indexes of other entries, from 1, where nothing else is said.
 #[derive(Debug, PartialEq, Eq, Hash, Drop)]
 pub enum Const {
     /// A text in modified UTF-8 of at most 65,535 bytes (CONSTANT_Utf8, tag 1, JVMS 4.4.7).
@@ -19,27 +20,27 @@ pub enum Const {
     /// 4.4.5).
     Double(u64),
     /// A class: its name (CONSTANT_Class, tag 7, JVMS 4.4.1).
-    Class(u16),
+    Class(ConstIndex),
     /// A string: its text (CONSTANT_String, tag 8, JVMS 4.4.3).
-    Str(u16),
+    Str(ConstIndex),
     /// A field: its class, and its name and type (CONSTANT_Fieldref, tag 9, JVMS 4.4.2).
-    Field(u16, u16),
+    Field(ConstIndex, ConstIndex),
     /// A method of a class: its class, and its name and type (CONSTANT_Methodref, tag 10, JVMS
     /// 4.4.2).
-    Method(u16, u16),
+    Method(ConstIndex, ConstIndex),
     /// A method of an interface: the interface, and the name and type (CONSTANT_InterfaceMethodref,
     /// tag 11, JVMS 4.4.2).
-    InterfaceMethod(u16, u16),
+    InterfaceMethod(ConstIndex, ConstIndex),
     /// A name and a descriptor (CONSTANT_NameAndType, tag 12, JVMS 4.4.6).
-    NameAndType(u16, u16),
+    NameAndType(ConstIndex, ConstIndex),
     /// A method handle: its kind from 1 to 9, and the field or method (CONSTANT_MethodHandle, tag
     /// 15, JVMS 4.4.8).
-    MethodHandle(u8, u16),
+    MethodHandle(u8, ConstIndex),
     /// A method type: its descriptor (CONSTANT_MethodType, tag 16, JVMS 4.4.9).
-    MethodType(u16),
+    MethodType(ConstIndex),
     /// A dynamic call: the number of its bootstrap method, which is no index of the pool, and its
     /// name and type (CONSTANT_InvokeDynamic, tag 18, JVMS 4.4.10).
-    InvokeDynamic(u16, u16),
+    InvokeDynamic(u16, ConstIndex),
 }
 
 /// Which of the three structures of a field or method (JVMS 4.4.2).

@@ -10,14 +10,14 @@ ghost use Rattle.je_consts.specs.Layout.{pool_layout, IsPoolAt};
 ghost use Rattle.je_consts.specs.Pool.{places_of, const_at, Names, Fits, IsPool};
 
 use crate::adding::{MOST, fits, grow, indexes_of};
-use crate::constant::Const;
+use crate::constant::{Const, ConstIndex};
 use crate::copying::copy_places;
 use crate::fault::{ConstFault, PoolStop};
 use crate::index::{Index, find_in, find_text_in, shared, shared_index};
 use crate::lookup::{const_in, count_of};
 use crate::place::Place;
 use crate::reading::pool_of;
-use crate::writing::bytes_of;
+use crate::writing::put_pool;
 use je_base::{Memory, Text};
 use std::alloc::Global;
 use std::marker::Model;
@@ -103,7 +103,7 @@ impl Consts {
     ///
     /// `None` exactly for 0, for an index not below the count, and for the second index of a Long
     /// or Double.
-    pub fn get(&self, index: u16) -> Option<&Const>
+    pub fn get(&self, index: ConstIndex) -> Option<&Const>
         ensures { option_copied result ≡ const_at self.now index }
     {
         const_in(&self.base, &self.tail, index)
@@ -126,8 +126,8 @@ impl Consts {
     /// # Errors
     ///
     /// `Full` with the new count, where the entry is not there and that count would pass 65,535,
-    /// and `Memory`. A refusal changes nothing.
-    pub fn add(&mut self, c: Const) -> Result<u16, PoolStop>
+    /// and `Memory` where memory runs out. A refusal changes nothing.
+    pub fn add(&mut self, c: Const) -> Result<ConstIndex, PoolStop>
         requires lawful { IsLawful c }
         requires names { Names self.old c }
         ensures adds { Adds c self.old result self.new }
@@ -167,7 +167,7 @@ impl Consts {
     }
 
     /// The least index that holds this entry.
-    fn find(&self, entry: &Const) -> Option<u16>
+    fn find(&self, entry: &Const) -> Option<ConstIndex>
         ensures some { IfSome result (IsLeastIndex self.now entry.now) }
         ensures none { IfNone result (IsMissing self.now entry.now) }
     {
@@ -193,10 +193,12 @@ impl Consts {
 
     /// The index of a text that is there, or why it is not added where there is no memory for a
     /// copy of it.
-    pub(crate) fn text_without_copy(&self, text: &Text) -> Result<u16, PoolStop>
+    pub(crate) fn text_without_copy(&self, text: &Text) -> Result<ConstIndex, PoolStop>
         ensures adds { Adds (Const.Utf8 text.now) self.now result self.now }
-        ensures full { (n : ℕ) → IsFull self.now (Const.Utf8 text.now) n → result ≡ Err (PoolStop.Full n) }
-        ensures there { IfOk result (λ index. const_at self.now index ≡ Some (Const.Utf8 text.now)) }
+        ensures full { (n : ℕ) → IsFull self.now (Const.Utf8 text.now) n →
+            result ≡ Err (PoolStop.Full n) }
+        ensures there { IfOk result (λ index.
+            const_at self.now index ≡ Some (Const.Utf8 text.now)) }
     {
         if let Some(index) = find_text_in(&self.base, &self.tail, text) {
             return Ok(index);
@@ -208,7 +210,22 @@ impl Consts {
         Err(PoolStop::Memory)
     }
 
+    /// Puts the bytes of the pool, the count and the entries, behind those that are there.
+    ///
+    /// # Errors
+    ///
+    /// `Memory` where memory runs out.
+    pub fn write_to(&self, out: &mut Vec<u8>) -> Result<(), Memory>
+        ensures { OnOk result (out.new.items ≡ out.old.items ++ pool_layout self.now) }
+    {
+        put_pool(out, &self.base, &self.tail)
+    }
+
     /// The bytes of the pool: the count and the entries.
+    ///
+    /// # Errors
+    ///
+    /// `Memory` where memory runs out.
     pub fn write(&self) -> Result<Vec<u8>, Memory>
         ensures bytes { IfOk result (λ v. v.items ≡ pool_layout self.now) }
 
@@ -219,10 +236,16 @@ impl Consts {
         ensures again { IfOk result (λ v. (bytes : List ℕ) (at end : ℕ) →
             IsPoolAt bytes at end self.now → v.items ≡ slice_range bytes at end) }
     {
-        bytes_of(*self.tail.allocator(), &self.base, &self.tail)
+        let mut out = Vec::new(*self.tail.allocator());
+        self.write_to(&mut out)?;
+        Ok(out)
     }
 
     /// The same pool once more, with what was read shared by both.
+    ///
+    /// # Errors
+    ///
+    /// `Memory` where memory runs out.
     pub fn copy(&self) -> Result<Consts, Memory>
         ensures { IfOk result (λ c. c ≡ self.now) }
     {

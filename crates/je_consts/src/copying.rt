@@ -42,7 +42,7 @@ fn copy_place(place: &Place) -> Result<Place, Memory>
 pub(crate) fn copy_places(alloc: Global, places: &[Place]) -> Result<Vec<Place>, Memory>
     ensures { IfOk result (λ v. v.items ≡ places.now) }
 {
-    let mut copies = Vec::new(alloc);
+    let mut copies = Vec::with_capacity(alloc, places.len())?;
     for place in places {
         copies.push(copy_place(place)?)?;
     }

@@ -3,13 +3,14 @@
 ghost use Rattle.std.specs.Int.{w16, w32, w64};
 ghost use Rattle.je_consts.specs.Reading.{Gives, integer_of, long_of, text_from, one_at, two_at, utf8_at, handle_at, info_at, entry_at};
 
-use crate::constant::Const;
+use crate::constant::{Const, ConstIndex};
 use crate::fault::ConstFault;
+use crate::tags::{self, GREATEST_KIND, LEAST_KIND};
 use je_base::{Text, run_at, u8_at, u16_at, u32_at, u64_at};
 use std::alloc::Global;
 
 /// The text of these bytes, which the entry of this index has.
-fn text_of(alloc: Global, index: u16, bytes: &[u8]) -> Result<Text, ConstFault>
+fn text_of(alloc: Global, index: ConstIndex, bytes: &[u8]) -> Result<Text, ConstFault>
     ensures { Gives (λ text. text) result (text_from index bytes.now) }
 {
     match Text::from_bytes(alloc, bytes)? {
@@ -19,7 +20,12 @@ fn text_of(alloc: Global, index: u16, bytes: &[u8]) -> Result<Text, ConstFault>
 }
 
 #[tactic(auto, unfolding(crate::specs::Reading::utf8_at))]
-fn utf8_of(alloc: Global, index: u16, bytes: &[u8], at: usize) -> Result<(Const, usize), ConstFault>
+fn utf8_of(
+    alloc: Global,
+    index: ConstIndex,
+    bytes: &[u8],
+    at: usize,
+) -> Result<(Const, usize), ConstFault>
     ensures { Gives (λ x. x) result (utf8_at index bytes.now at) }
 {
     let (len, at) = u16_at(bytes, at)?;
@@ -113,11 +119,11 @@ fn name_and_type_of(bytes: &[u8], at: usize) -> Result<(Const, usize), ConstFaul
 }
 
 #[tactic(auto, unfolding(crate::specs::Reading::handle_at, crate::specs::Reading::one_at))]
-fn handle_of(index: u16, bytes: &[u8], at: usize) -> Result<(Const, usize), ConstFault>
+fn handle_of(index: ConstIndex, bytes: &[u8], at: usize) -> Result<(Const, usize), ConstFault>
     ensures { Gives (λ x. x) result (handle_at index bytes.now at) }
 {
     let (kind, at) = u8_at(bytes, at)?;
-    if !(1..=9).contains(&kind) {
+    if !(LEAST_KIND..=GREATEST_KIND).contains(&kind) {
         return Err(ConstFault::BadConst(index));
     }
     let (member, at) = u16_at(bytes, at)?;
@@ -145,7 +151,7 @@ fn invoke_dynamic_of(bytes: &[u8], at: usize) -> Result<(Const, usize), ConstFau
 #[tactic(auto, unfolding(crate::specs::Reading::info_at))]
 fn info_of(
     alloc: Global,
-    index: u16,
+    index: ConstIndex,
     tag: u8,
     bytes: &[u8],
     at: usize,
@@ -153,20 +159,20 @@ fn info_of(
     ensures { Gives (λ x. x) result (info_at index tag bytes.now at) }
 {
     match tag {
-        1 => utf8_of(alloc, index, bytes, at),
-        3 => integer_of(bytes, at),
-        4 => float_of(bytes, at),
-        5 => long_of(bytes, at),
-        6 => double_of(bytes, at),
-        7 => class_of(bytes, at),
-        8 => string_of(bytes, at),
-        9 => field_of(bytes, at),
-        10 => method_of(bytes, at),
-        11 => interface_method_of(bytes, at),
-        12 => name_and_type_of(bytes, at),
-        15 => handle_of(index, bytes, at),
-        16 => method_type_of(bytes, at),
-        18 => invoke_dynamic_of(bytes, at),
+        tags::UTF8 => utf8_of(alloc, index, bytes, at),
+        tags::INTEGER => integer_of(bytes, at),
+        tags::FLOAT => float_of(bytes, at),
+        tags::LONG => long_of(bytes, at),
+        tags::DOUBLE => double_of(bytes, at),
+        tags::CLASS => class_of(bytes, at),
+        tags::STRING => string_of(bytes, at),
+        tags::FIELDREF => field_of(bytes, at),
+        tags::METHODREF => method_of(bytes, at),
+        tags::INTERFACE_METHODREF => interface_method_of(bytes, at),
+        tags::NAME_AND_TYPE => name_and_type_of(bytes, at),
+        tags::METHOD_HANDLE => handle_of(index, bytes, at),
+        tags::METHOD_TYPE => method_type_of(bytes, at),
+        tags::INVOKE_DYNAMIC => invoke_dynamic_of(bytes, at),
         _ => Err(ConstFault::BadConst(index)),
     }
 }
@@ -175,7 +181,7 @@ fn info_of(
 #[tactic(auto, unfolding(crate::specs::Reading::entry_at))]
 pub(crate) fn entry_of(
     alloc: Global,
-    index: u16,
+    index: ConstIndex,
     bytes: &[u8],
     at: usize,
 ) -> Result<(Const, usize), ConstFault>

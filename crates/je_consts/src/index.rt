@@ -6,7 +6,7 @@ ghost use Rattle.je_consts.specs.Adding.{IsMissing, IsLeastIndex};
 ghost use Rattle.je_consts.specs.Indexed.{answer, IsIndexOf};
 
 use crate::adding::{index_of, index_of_text};
-use crate::constant::Const;
+use crate::constant::{Const, ConstIndex};
 use crate::copying::copy_const;
 use crate::place::Place;
 use indexmap::IndexMap;
@@ -30,14 +30,14 @@ impl Index {
     }
 
     /// The least index of an entry.
-    fn get(&self, entry: &Const) -> Option<u16>
+    fn get(&self, entry: &Const) -> Option<ConstIndex>
         ensures { result ≡ answer self.now entry.now }
     {
         self.least.get(entry).copied()
     }
 
     /// Takes in what stands at the next index.
-    fn note(&mut self, place: &Place, index: u16) -> Result<(), Memory>
+    fn note(&mut self, place: &Place, index: ConstIndex) -> Result<(), Memory>
         ensures { (places : List Place) → length places + 1 ≡ index → IsIndexOf places self.old →
             IfOk result (λ _. IsIndexOf (places ++ place.now ∷ []) self.new) }
     {
@@ -90,7 +90,7 @@ impl Index {
 }
 
 /// The least index of an entry among these places, by their index where there is one.
-pub(crate) fn find(places: &[Place], index: Option<&Index>, entry: &Const) -> Option<u16>
+pub(crate) fn find(places: &[Place], index: Option<&Index>, entry: &Const) -> Option<ConstIndex>
     requires count { length places.now + 1 < 2 ^ 16 }
     requires index { IfSome index (λ x. IsIndexOf places.now x.now) }
     ensures some { IfSome result (IsLeastIndex places.now entry.now) }
@@ -147,7 +147,7 @@ pub(crate) fn find_in(
 }
 
 /// The least index of a text's Utf8 among these places one after the other.
-pub(crate) fn find_text_in(base: &[Place], tail: &[Place], text: &Text) -> Option<u16>
+pub(crate) fn find_text_in(base: &[Place], tail: &[Place], text: &Text) -> Option<ConstIndex>
     requires { length (base.now ++ tail.now) + 1 < 2 ^ 16 }
     ensures some { IfSome result (IsLeastIndex (base.now ++ tail.now) (Const.Utf8 text.now)) }
     ensures none { IfNone result (IsMissing (base.now ++ tail.now) (Const.Utf8 text.now)) }

@@ -1,10 +1,12 @@
-//! A law of the bytes, over all pools.
+//! Laws over all pools.
 
-ghost use Rattle.std.specs.Prelude.{◌≡◌, ℕ, ◌^◌, ◌<◌, ◌≤◌, ◌⊎◌, List, length, slice_index};
+ghost use Rattle.std.specs.Prelude.{◌≡◌, ℕ, ◌^◌, ◌<◌, ◌≤◌, ◌⊎◌, ◌↔◌, List, length, slice_index, IsSome};
 ghost use Rattle.je_consts.specs.declared.fault.ConstFault.{ConstFault};
 ghost use Rattle.je_consts.specs.declared.place.Place.{Place};
 ghost use Rattle.je_consts.specs.Faults.{FirstFault};
 ghost use Rattle.je_consts.specs.Layout.{IsPoolAt};
+ghost use Rattle.je_consts.specs.Pool.{text_at, class_at, name_and_type_at, member_at, IsPool};
+ghost use Rattle.je_consts.specs.Pool.{IsUtf8At, IsClassAt, IsNameAndTypeAt, IsMemberAt};
 
 /// From an offset on, bytes are one constant pool or have one first fault, and there is one of
 /// them.
@@ -20,4 +22,17 @@ pub fn one_pool()
         ((i : ℕ) → slice_index bytes i < 2 ^ 8) → at ≤ length bytes
         → ((places : List Place) × (end : ℕ) × IsPoolAt bytes at end places)
         ⊎ ((d : ConstFault) × FirstFault bytes at d) }
+{}
+
+/// In a pool a look-up answers exactly where an entry of its tag stands: what the entry names is
+/// there.
+pub fn found_by_tag()
+    ensures text { (places : List Place) → IsPool places → (i : ℕ) →
+        IsSome (text_at places i) ↔ IsUtf8At places i }
+    ensures class_name { (places : List Place) → IsPool places → (i : ℕ) →
+        IsSome (class_at places i) ↔ IsClassAt places i }
+    ensures name_and_type { (places : List Place) → IsPool places → (i : ℕ) →
+        IsSome (name_and_type_at places i) ↔ IsNameAndTypeAt places i }
+    ensures member { (places : List Place) → IsPool places → (i : ℕ) →
+        IsSome (member_at places i) ↔ IsMemberAt places i }
 {}

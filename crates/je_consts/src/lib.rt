@@ -19,9 +19,10 @@ mod lookup;
 mod named;
 mod place;
 mod reading;
+mod tags;
 mod writing;
 
-pub use constant::{Const, Member, MemberTag};
+pub use constant::{Const, ConstIndex, Member, MemberTag};
 pub use consts::Consts;
 pub use fault::{ConstFault, PoolStop};
-pub use laws::one_pool;
+pub use laws::{found_by_tag, one_pool};

@@ -4,33 +4,34 @@ ghost use Rattle.std.specs.Prelude.{◌≡◌, ◌+◌, ◌^◌, ◌<◌, ◌++�
 ghost use Rattle.std.specs.Option.{option_copied};
 ghost use Rattle.je_consts.specs.Pool.{tag, const_at, tag_at};
 
-use crate::constant::Const;
+use crate::constant::{Const, ConstIndex};
 use crate::place::Place;
+use crate::tags;
 
-/// The tag of an entry (JVMS table 4.4-A).
+/// The tag of an entry.
 pub(crate) fn tag_of(entry: &Const) -> u8
     ensures { result ≡ tag entry.now }
 {
     match entry {
-        Const::Utf8(_) => 1,
-        Const::Integer(_) => 3,
-        Const::Float(_) => 4,
-        Const::Long(_) => 5,
-        Const::Double(_) => 6,
-        Const::Class(_) => 7,
-        Const::Str(_) => 8,
-        Const::Field(..) => 9,
-        Const::Method(..) => 10,
-        Const::InterfaceMethod(..) => 11,
-        Const::NameAndType(..) => 12,
-        Const::MethodHandle(..) => 15,
-        Const::MethodType(_) => 16,
-        Const::InvokeDynamic(..) => 18,
+        Const::Utf8(_) => tags::UTF8,
+        Const::Integer(_) => tags::INTEGER,
+        Const::Float(_) => tags::FLOAT,
+        Const::Long(_) => tags::LONG,
+        Const::Double(_) => tags::DOUBLE,
+        Const::Class(_) => tags::CLASS,
+        Const::Str(_) => tags::STRING,
+        Const::Field(..) => tags::FIELDREF,
+        Const::Method(..) => tags::METHODREF,
+        Const::InterfaceMethod(..) => tags::INTERFACE_METHODREF,
+        Const::NameAndType(..) => tags::NAME_AND_TYPE,
+        Const::MethodHandle(..) => tags::METHOD_HANDLE,
+        Const::MethodType(_) => tags::METHOD_TYPE,
+        Const::InvokeDynamic(..) => tags::INVOKE_DYNAMIC,
     }
 }
 
 /// The entry at an index, from 1.
-pub(crate) fn const_at(places: &[Place], index: u16) -> Option<&Const>
+pub(crate) fn const_at(places: &[Place], index: ConstIndex) -> Option<&Const>
     ensures { option_copied result ≡ const_at places.now index }
 {
     if index == 0 {
@@ -43,7 +44,7 @@ pub(crate) fn const_at(places: &[Place], index: u16) -> Option<&Const>
 }
 
 /// The tag of the entry at an index.
-pub(crate) fn tag_at(places: &[Place], index: u16) -> Option<u8>
+pub(crate) fn tag_at(places: &[Place], index: ConstIndex) -> Option<u8>
     ensures { result ≡ tag_at places.now index }
 {
     match const_at(places, index) {
@@ -53,7 +54,7 @@ pub(crate) fn tag_at(places: &[Place], index: u16) -> Option<u8>
 }
 
 /// Whether the entry at an index has this tag.
-pub(crate) fn has_tag(places: &[Place], index: u16, tag: u8) -> bool
+pub(crate) fn has_tag(places: &[Place], index: ConstIndex, tag: u8) -> bool
     ensures { IsTrue result ↔ (tag_at places.now index ≡ Some tag) }
 {
     match tag_at(places, index) {
@@ -63,7 +64,11 @@ pub(crate) fn has_tag(places: &[Place], index: u16, tag: u8) -> bool
 }
 
 /// The entry at an index of these places one after the other.
-pub(crate) fn const_in<'a>(base: &'a [Place], tail: &'a [Place], index: u16) -> Option<&'a Const>
+pub(crate) fn const_in<'a>(
+    base: &'a [Place],
+    tail: &'a [Place],
+    index: ConstIndex,
+) -> Option<&'a Const>
     ensures { option_copied result ≡ const_at (base.now ++ tail.now) index }
 {
     let at = index as usize;

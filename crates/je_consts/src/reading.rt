@@ -61,7 +61,7 @@ fn places_of(
     requires { 1 ≤ count }
     ensures { Gives (λ x. (x.0.items, x.1)) result (places_at false (count - 1) 1 bytes.now at) }
 {
-    let mut places = Vec::new(alloc);
+    let mut places = Vec::with_capacity(alloc, count as usize - 1)?;
     let mut next = at;
     let mut wide = false;
     for index in 1..count {

@@ -1,6 +1,6 @@
 //! The bytes of a constant pool (JVMS 4.1 and 4.4).
 
-ghost use Rattle.std.specs.Prelude.{◌≡◌, ◌+◌, ◌^◌, ◌<◌, ◌++◌, length, IfOk, OnOk};
+ghost use Rattle.std.specs.Prelude.{◌≡◌, ◌+◌, ◌^◌, ◌<◌, ◌++◌, length, OnOk};
 ghost use Rattle.std.specs.List.{AllByRecursion};
 ghost use Rattle.je_base.specs.Bytes.{u2};
 ghost use Rattle.je_consts.specs.Layout.{const_layout, place_layout, entries_layout, pool_layout};
@@ -10,7 +10,6 @@ use crate::constant::Const;
 use crate::lookup::{count_of, tag_of};
 use crate::place::Place;
 use je_base::{Memory, Text, put_u16, put_u32, put_u64};
-use std::alloc::Global;
 
 fn put_two(out: &mut Vec<u8>, first: u16, second: u16) -> Result<(), Memory>
     ensures { OnOk result (out.new.items ≡ out.old.items ++ (u2 first ++ u2 second)) }
@@ -76,15 +75,41 @@ fn put_places(out: &mut Vec<u8>, places: &[Place]) -> Result<(), Memory>
     Ok(())
 }
 
-/// The count and the entries of these places one after the other.
-pub(crate) fn bytes_of(alloc: Global, base: &[Place], tail: &[Place]) -> Result<Vec<u8>, Memory>
+/// How many bytes stand at a place.
+fn size_of(place: &Place) -> usize
+    ensures { result ≡ length (place_layout place.now) }
+{
+    match place {
+        Place::Entry(Const::Utf8(text)) => 3 + text.bytes().len(),
+        Place::Entry(Const::Class(_) | Const::Str(_) | Const::MethodType(_)) => 3,
+        Place::Entry(Const::MethodHandle(..)) => 4,
+        Place::Entry(Const::Long(_) | Const::Double(_)) => 9,
+        Place::Entry(_) => 5,
+        Place::Second => 0,
+    }
+}
+
+/// Makes room for the entries.
+fn make_room(out: &mut Vec<u8>, places: &[Place]) -> Result<(), Memory>
+    ensures { out.new.items ≡ out.old.items }
+{
+    let mut size: usize = 0;
+    for place in places {
+        size = size.saturating_add(size_of(place));
+    }
+    out.reserve(size)?;
+    Ok(())
+}
+
+/// Puts the count and the entries of these places, one after the other, behind the others.
+pub(crate) fn put_pool(out: &mut Vec<u8>, base: &[Place], tail: &[Place]) -> Result<(), Memory>
     requires count { length (base.now ++ tail.now) + 1 < 2 ^ 16 }
     requires each { AllByRecursion (OfEntry Fits) (base.now ++ tail.now) }
-    ensures { IfOk result (λ v. v.items ≡ pool_layout (base.now ++ tail.now)) }
+    ensures { OnOk result (out.new.items ≡ out.old.items ++ pool_layout (base.now ++ tail.now)) }
 {
-    let mut out = Vec::new(alloc);
-    put_u16(&mut out, count_of(base, tail) as u16)?;
-    put_places(&mut out, base)?;
-    put_places(&mut out, tail)?;
-    Ok(out)
+    put_u16(out, count_of(base, tail) as u16)?;
+    make_room(out, base)?;
+    put_places(out, base)?;
+    make_room(out, tail)?;
+    put_places(out, tail)
 }

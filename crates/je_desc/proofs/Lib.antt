@@ -3,3 +3,4 @@ pub mod NameFronts
 pub mod FieldFronts
 pub mod Descriptors
 pub mod MethodFronts
+pub mod Decides

@@ -1,5 +1,6 @@
 -- The types that descriptors spell, and their spelling (JVMS SE 8, 4.3.2).
 use Rattle.std.specs.Prelude.{ℕ, suc, ◌≤◌, List, [], ◌∷◌, ◌++◌}
+use Rattle.je_base.specs.Ascii.{letter_L, semicolon, left_bracket}
 use Rattle.je_desc.specs.Names.{IsClassName}
 
 -- BaseType
@@ -31,10 +32,14 @@ dimensions (Base base) = 0
 dimensions (Object name) = 0
 dimensions (Array component) = suc (dimensions component)
 
+-- the most dimensions that an array has
+abbrev pub most_dimensions : ℕ
+most_dimensions = 255
+
 -- a type that has a descriptor: an array has at most 255 dimensions
 pub record IsFieldType (t : FieldType) : Type 0 where
   pub named : HasName t
-  pub within : dimensions t ≤ 255
+  pub within : dimensions t ≤ most_dimensions
 
 -- the BaseType character (Table 4.3-A)
 abbrev pub letter : BaseType → ℕ
@@ -50,5 +55,5 @@ letter Boolean = 90  -- Z
 -- the descriptor of a type: a letter, `L` ClassName `;`, or `[` ComponentType
 abbrev pub descriptor : FieldType → List ℕ
 descriptor (Base base) = letter base ∷ []
-descriptor (Object name) = 76 ∷ (name ++ 59 ∷ [])
-descriptor (Array component) = 91 ∷ descriptor component
+descriptor (Object name) = letter_L ∷ (name ++ semicolon ∷ [])
+descriptor (Array component) = left_bracket ∷ descriptor component

@@ -5,9 +5,13 @@ use Rattle.je_desc.specs.declared.summary.Summary.{Summary}
 use Rattle.je_desc.specs.Descriptor.{FieldDescriptor, IsDescriptorOf}
 use Rattle.je_desc.specs.Names.{IsClassName}
 
--- as many bytes as a constant of a class file has room for (JVMS 4.4.7)
+-- the most bytes that a constant of a class file has room for (JVMS 4.4.7)
+abbrev pub most_bytes : ℕ
+most_bytes = 65535
+
+-- as many bytes as a constant of a class file has room for
 abbrev pub IsShort : List ℕ → Type 0
-IsShort text = length text ≤ 65535
+IsShort text = length text ≤ most_bytes
 
 -- the name of a class that is no array (JVMS 4.2.1)
 pub record IsFitName (name : List ℕ) : Type 0 where

@@ -1,7 +1,9 @@
--- What stands at the front of bytes, and what comes after it.
+-- Serves private functions: what stands at the front of bytes, and what comes after it.
 use Rattle.std.specs.Prelude.{◌≡◌, ℕ, ◌+◌, ◌≤◌, List, ◌∷◌, ◌++◌, Option, IfSome}
 use Rattle.std.specs.List.{flat_map, sum_by, AllByRecursion}
-use Rattle.je_desc.specs.FieldType.{BaseType, FieldType, HasName, IsFieldType, dimensions, letter, descriptor}
+use Rattle.je_base.specs.Ascii.{semicolon, right_parenthesis}
+use Rattle.je_desc.specs.FieldType.{BaseType, FieldType, HasName, IsFieldType}
+use Rattle.je_desc.specs.FieldType.{dimensions, most_dimensions, letter, descriptor}
 use Rattle.je_desc.specs.Names.{IsClassName}
 use Rattle.je_desc.specs.Descriptor.{units_of, return_descriptor}
 
@@ -12,13 +14,13 @@ IsBaseLetter b = (base : BaseType) × (b ≡ letter base)
 pub record NameFront (bytes rest : List ℕ) : Type 0 where
   pub name : List ℕ
   pub is_name : IsClassName name
-  pub whole : bytes ≡ name ++ 59 ∷ rest
+  pub whole : bytes ≡ name ++ semicolon ∷ rest
 
 -- a field descriptor, or what is left of one after so many `[`
 pub record FieldFront (read : ℕ) (bytes rest : List ℕ) : Type 0 where
   pub type : FieldType
   pub named : HasName type
-  pub within : dimensions type + read ≤ 255
+  pub within : dimensions type + read ≤ most_dimensions
   pub whole : bytes ≡ descriptor type ++ rest
 
 -- parameters of so many units, and `)`
@@ -26,7 +28,7 @@ pub record ParamsFront (bytes : List ℕ) (n : ℕ) (rest : List ℕ) : Type 0 w
   pub params : List FieldType
   pub types : AllByRecursion IsFieldType params
   pub units : n ≡ sum_by units_of params
-  pub whole : bytes ≡ flat_map descriptor params ++ 41 ∷ rest
+  pub whole : bytes ≡ flat_map descriptor params ++ right_parenthesis ∷ rest
 
 -- what stands after the `)`
 pub record ReturnDescriptor (bytes : List ℕ) : Type 0 where

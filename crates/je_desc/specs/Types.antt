@@ -27,4 +27,5 @@ field_type_of t = fold-JType FieldType level_of t
 
 -- the types that a `MethodType` stands for
 abbrev pub method_types_of : MethodType → MethodTypes
-method_types_of m = record { params = map field_type_of m.params; result = option_map field_type_of m.result }
+method_types_of m =
+    record { params = map field_type_of m.params; result = option_map field_type_of m.result }

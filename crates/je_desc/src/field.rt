@@ -22,7 +22,8 @@ pub fn is_field(b: &[u8]) -> bool
 /// What comes after the field descriptor at the front.
 pub(crate) fn after_field(b: &[u8]) -> Option<&[u8]>
     ensures some { IfSome result (λ rest. FieldFront 0 b.now rest.now) }
-    ensures only { (x : List ℕ) → FieldFront 0 b.now x → MatchOption result ⊥ (λ rest. rest.now ≡ x) }
+    ensures only { (x : List ℕ) → FieldFront 0 b.now x →
+        MatchOption result ⊥ (λ rest. rest.now ≡ x) }
 {
     let mut rest = b;
     let mut dimensions = 0;
@@ -39,7 +40,8 @@ pub(crate) fn after_field(b: &[u8]) -> Option<&[u8]>
 /// What comes after the type at the front that is no array.
 fn after_element(b: &[u8]) -> Option<&[u8]>
     ensures some { IfSome result (λ rest. FieldFront 255 b.now rest.now) }
-    ensures only { (x : List ℕ) → FieldFront 255 b.now x → MatchOption result ⊥ (λ rest. rest.now ≡ x) }
+    ensures only { (x : List ℕ) → FieldFront 255 b.now x →
+        MatchOption result ⊥ (λ rest. rest.now ≡ x) }
 {
     let [first, rest @ ..] = b else {
         return None;

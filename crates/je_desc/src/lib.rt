@@ -5,12 +5,14 @@
 #![tactic(auto)]
 
 mod field;
+mod laws;
 mod method;
 mod names;
 mod summary;
 mod types;
 
 pub use field::is_field;
+pub use laws::each_is_decided;
 pub use method::units;
 pub use names::is_class_name;
 pub use summary::{MemberSig, Summary};

@@ -5,7 +5,7 @@ use Rattle.je_consts.proofs.reading.places_of.Goals as goal
 
 pub returns-in_err-place : goal.returns-in_err-place
 returns-in_err-place c =
-    let p = err_from_is_err_and c.from_residual.result c.from_residual.ensures.1 in
+    let p = err_from_is_err_and c.from_residual-in_err-place.result c.from_residual-in_err-place.ensures.1 in
     rw (p.1, p.2) (ends c.loop-index.places.items c.loop-index.wide c.args.count c.loop-index.index c.args.bytes.now c.loop-index.next _ c.in_err-place.field-0.0 c.loop-index-test.true c.in_err-place.ensures c.loop-index.invariant)
 
 pub loop-index-preserved : goal.loop-index-preserved
