@@ -11,3 +11,5 @@ pub mod UnderLemmas
 pub mod FieldLemmas
 pub mod SimulationLemmas
 pub mod IndexMapLemmas
+pub mod KindLemmas
+pub mod ResultLemmas

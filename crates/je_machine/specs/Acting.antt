@@ -1,13 +1,21 @@
 -- What each action does (JVMS 6.5).
-use Rattle.std.specs.Prelude.{ℕ, ℤ, pos, List, map, Option, Some, None, Bool, true, false, ◌&&◌, int_lt, unsigned_abs, codes, if◌then◌else◌}
+use Rattle.std.specs.Prelude.{ℕ, ℤ, pos, List, map, Option, Some, None, Bool, true, false, ◌&&◌}
+use Rattle.std.specs.Prelude.{int_lt, unsigned_abs, codes, if◌then◌else◌}
 use Rattle.std.specs.List.{list_any}
 use Rattle.je_desc.specs.FieldType.{FieldType, descriptor}
-use Rattle.je_machine.specs.Value.{Kind, Value, Int, zero_of, kind_of, admit, admit_all, number_of, value_at, is_null}
-use Rattle.je_machine.specs.Heap.{FieldKey, allocate, next_object, new_instance, read_static, write_static, read_field, write_field, array_length, read_element, write_element, make_array}
+use Rattle.je_machine.specs.Value.{Kind, Value, Int, zero_of, kind_of, admit, admit_all, number_of}
+use Rattle.je_machine.specs.Value.{value_at, is_null}
+use Rattle.je_machine.specs.Heap.{FieldKey, allocate, next_object, new_instance, read_static}
+use Rattle.je_machine.specs.Heap.{write_static, read_field, write_field, array_length, read_element}
+use Rattle.je_machine.specs.Heap.{write_element, make_array}
 use Rattle.je_machine.specs.Classes.{Classes, holder_of, is_instance, takes_element}
 use Rattle.je_machine.specs.Calculation.{calculate}
-use Rattle.je_machine.specs.Action.{Action, Calculate, FloatOperation, ArrayLength, LoadElement, StoreElement, GetField, PutField, GetStatic, PutStatic, Invoke, New, NewArray, CheckCast, InstanceOf, MonitorEnter, MonitorExit, Field, kind_of_element, operands_of, result_of, has_target}
-use Rattle.je_machine.specs.Outside.{Outside, Response, Gave, Threw, Waits, with_heap, raise, invoke, float_operation, monitor_operation}
+use Rattle.je_machine.specs.Action.{Action, Calculate, FloatOperation, ArrayLength, LoadElement}
+use Rattle.je_machine.specs.Action.{StoreElement, GetField, PutField, GetStatic, PutStatic, Invoke}
+use Rattle.je_machine.specs.Action.{New, NewArray, CheckCast, InstanceOf, MonitorEnter, MonitorExit}
+use Rattle.je_machine.specs.Action.{Field, kind_of_element, operands_of, result_of, has_target}
+use Rattle.je_machine.specs.Outside.{Outside, Response, Gave, Threw, Waits, with_heap, raise}
+use Rattle.je_machine.specs.Outside.{invoke, float_operation, monitor_operation}
 
 abbrev pub gave : Value → Outside → Response
 gave value outside = Gave (Some value) outside

@@ -1,9 +1,11 @@
 -- What an instruction does that computes, throws, or touches the heap or the outside (JVMS 6.5).
-use Rattle.std.specs.Prelude.{ℕ, List, [], ◌∷◌, ◌++◌, map, replicate, Option, Some, None, option_map, Bool, true, false}
+use Rattle.std.specs.Prelude.{ℕ, List, [], ◌∷◌, ◌++◌, map, replicate, Option, Some, None}
+use Rattle.std.specs.Prelude.{option_map, Bool, true, false}
 use Rattle.je_desc.specs.FieldType.{FieldType}
 use Rattle.je_desc.specs.Descriptor.{MethodTypes}
 use Rattle.je_machine.specs.Content.{Content}
-use Rattle.je_machine.specs.Value.{Kind, IntKind, LongKind, FloatKind, DoubleKind, ReferenceKind, kind_of}
+use Rattle.je_machine.specs.Value.{Kind, IntKind, LongKind, FloatKind, DoubleKind, ReferenceKind}
+use Rattle.je_machine.specs.Value.{kind_of}
 use Rattle.je_machine.specs.Calculation.{Calculation, calculation_operands, calculation_result}
 
 -- what an instruction takes the elements of an array to be

@@ -1,7 +1,10 @@
 -- What the instructions on ints and longs compute (JVMS 2.11.3, 2.11.4 and 6.5).
-use Rattle.std.specs.Prelude.{ℕ, ◌^◌, ◌/◌, ℤ, pos, negsuc, List, [], ◌∷◌, Option, Some, None, Bool, true, not, int_lt, int_div, int_rem, unsigned_abs, if◌then◌else◌}
+use Rattle.std.specs.Prelude.{ℕ, ◌^◌, ◌/◌, ℤ, pos, negsuc, List, [], ◌∷◌, Option, Some, None, Bool}
+use Rattle.std.specs.Prelude.{true, not, int_lt, int_div, int_rem, unsigned_abs, if◌then◌else◌}
 use Rattle.std.specs.Ordering.{int_eq}
-use Rattle.std.specs.Int.{Width, w8, w16, w32, w64, cast_signed, cast_unsigned, int_wrap, int_rem_euclid, int_wrapping_add, int_wrapping_sub, int_wrapping_mul, int_wrapping_neg, int_bit_and, int_bit_or, int_bit_xor, int_shl, int_shr}
+use Rattle.std.specs.Int.{Width, w8, w16, w32, w64, cast_signed, cast_unsigned, int_wrap}
+use Rattle.std.specs.Int.{int_rem_euclid, int_wrapping_add, int_wrapping_sub, int_wrapping_mul}
+use Rattle.std.specs.Int.{int_wrapping_neg, int_bit_and, int_bit_or, int_bit_xor, int_shl, int_shr}
 use Rattle.je_machine.specs.Value.{Kind, IntKind, LongKind, Value, Int, Long, number_of, value_at}
 
 -- which of the two whole types

@@ -1,5 +1,7 @@
 -- What is known of other classes, and of what class a reference is.
-use Rattle.std.specs.Prelude.{ℕ, ◌-◌, List, [], ◌∷◌, length, take, drop, slice_get, Option, Some, None, unwrap_or, option_map, Bool, true, false, ◌||◌, ◌&&◌, codes, if◌then◌else◌, ◌==◌}
+use Rattle.std.specs.Prelude.{ℕ, ◌-◌, List, [], ◌∷◌, length, take, drop, slice_get, Option, Some}
+use Rattle.std.specs.Prelude.{None, unwrap_or, option_map, Bool, true, false, ◌||◌, ◌&&◌, codes}
+use Rattle.std.specs.Prelude.{if◌then◌else◌, ◌==◌}
 use Rattle.std.specs.List.{find, list_any}
 use Rattle.je_base.specs.Text.{is_same_text}
 use Rattle.je_machine.specs.Content.{Content, Class, Str, MethodHandle}

@@ -1,7 +1,8 @@
 -- The conditions of jumps (JVMS 6.5, ifeq to if_acmpne, ifnull and ifnonnull).
 use Rattle.std.specs.Prelude.{ℤ, pos, List, [], ◌∷◌, Bool, true, false, not, int_lt}
 use Rattle.std.specs.Ordering.{int_eq}
-use Rattle.je_machine.specs.Value.{Kind, IntKind, ReferenceKind, Value, number_of, value_at, is_null, is_same_reference}
+use Rattle.je_machine.specs.Value.{Kind, IntKind, ReferenceKind, Value, number_of, value_at}
+use Rattle.je_machine.specs.Value.{is_null, is_same_reference}
 
 pub data Comparison : Type 0 where
   Equals : Comparison

@@ -1,5 +1,6 @@
 -- The operand stack and the local variables, and what an instruction does with them (JVMS 2.6).
-use Rattle.std.specs.Prelude.{ℕ, zero, suc, ◌-◌, ℤ, pos, List, [], ◌∷◌, ◌++◌, length, Option, Some, None, unwrap_or, option_map, Bool, true, false}
+use Rattle.std.specs.Prelude.{ℕ, zero, suc, ◌-◌, ℤ, pos, List, [], ◌∷◌, ◌++◌, length, Option, Some}
+use Rattle.std.specs.Prelude.{None, unwrap_or, option_map, Bool, true, false}
 use Rattle.std.specs.List.{find}
 use Rattle.std.specs.Ordering.{int_eq}
 use Rattle.std.specs.Int.{w32, int_wrapping_add}
@@ -9,7 +10,8 @@ use Rattle.je_machine.specs.Condition.{condition_operands, is_met}
 use Rattle.je_machine.specs.Action.{operands_of}
 use Rattle.je_machine.specs.Outside.{Outside, Response, Gave, Threw, Waits, throw_reference}
 use Rattle.je_machine.specs.Acting.{act}
-use Rattle.je_machine.specs.Operation.{Basic, Nop, Push, Drop, Copy, Swap, Act, Throw, Operation, Do, Load, Store, Increment, Branch, Goto, Switch, Return}
+use Rattle.je_machine.specs.Operation.{Basic, Nop, Push, Drop, Copy, Swap, Act, Throw, Operation}
+use Rattle.je_machine.specs.Operation.{Do, Load, Store, Increment, Branch, Goto, Switch, Return}
 
 -- the stack, whose top is the head of the list, and the local variables
 pub record Frame : Type 0 where

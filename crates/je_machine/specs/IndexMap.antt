@@ -1,7 +1,9 @@
 -- A program whose instructions stand at other places in another program.
-use Rattle.std.specs.Prelude.{◌≡◌, ℕ, suc, List, map, filter, Option, IfSome, option_map, slice_get, Bool, true, false, IsTrue}
+use Rattle.std.specs.Prelude.{◌≡◌, ℕ, suc, List, map, filter, Option, IfSome, option_map, slice_get}
+use Rattle.std.specs.Prelude.{Bool, true, false, IsTrue}
 use Rattle.std.specs.List.{AllByRecursion}
-use Rattle.je_machine.specs.Operation.{Throw, Operation, Do, Branch, Goto, Switch, Return, Handler, Program}
+use Rattle.je_machine.specs.Operation.{Throw, Operation, Do, Branch, Goto, Switch, Return, Handler}
+use Rattle.je_machine.specs.Operation.{Program}
 use Rattle.je_machine.specs.Machine.{State, state_at, covers}
 use Rattle.je_machine.specs.Moved.{retargeted}
 

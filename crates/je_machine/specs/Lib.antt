@@ -19,3 +19,8 @@ pub mod Under
 pub mod Sample
 pub mod Simulation
 pub mod IndexMap
+pub mod Rows
+pub mod IntRows
+pub mod IntBitRows
+pub mod LongRows
+pub mod LongBitRows

@@ -1,13 +1,16 @@
 -- The machine: what a program does in at most so many steps (JVMS 2.6, 2.10 and 6.5).
-use Rattle.std.specs.Prelude.{ℕ, zero, suc, pos, List, [], ◌∷◌, ◌++◌, Option, Some, None, option_map, slice_get, Bool, true, ◌&&◌, nat_lt, nat_le}
+use Rattle.std.specs.Prelude.{ℕ, zero, suc, pos, List, [], ◌∷◌, ◌++◌, Option, Some, None}
+use Rattle.std.specs.Prelude.{option_map, slice_get, Bool, true, ◌&&◌, nat_lt, nat_le}
 use Rattle.std.specs.List.{find}
 use Rattle.je_machine.specs.Value.{Kind, LongKind, DoubleKind, Value, Int, zero_of, admit}
 use Rattle.je_machine.specs.Heap.{Heap}
 use Rattle.je_machine.specs.Classes.{Classes, is_instance}
 use Rattle.je_machine.specs.Operation.{Operation, Handler, Program}
 use Rattle.je_machine.specs.Outside.{Answer, Outside}
-use Rattle.je_machine.specs.Frame.{Frame, Flow, Falls, Jumps, Leaves, Raises, Halts, frame_of, perform}
-use Rattle.je_machine.specs.Step.{Outcome, Progress, Goes, Step, Returned, Thrown, goes_on, ends, iterate_all}
+use Rattle.je_machine.specs.Frame.{Frame, Flow, Falls, Jumps, Leaves, Raises, Halts, frame_of}
+use Rattle.je_machine.specs.Frame.{perform}
+use Rattle.je_machine.specs.Step.{Outcome, Progress, Goes, Step, Returned, Thrown, goes_on, ends}
+use Rattle.je_machine.specs.Step.{iterate_all}
 
 -- the index of the next instruction, the frame, and the outside
 pub record State : Type 0 where

@@ -1,6 +1,7 @@
 -- An instruction whose targets are moved (JVMS 6.5), and an entry of the exception table.
 use Rattle.std.specs.Prelude.{ℕ, map}
-use Rattle.je_machine.specs.Operation.{Operation, Do, Load, Store, Increment, Branch, Goto, Switch, Return, Handler}
+use Rattle.je_machine.specs.Operation.{Operation, Do, Load, Store, Increment, Branch, Goto, Switch}
+use Rattle.je_machine.specs.Operation.{Return, Handler}
 use Rattle.je_machine.specs.Frame.{Flow, Falls, Jumps, Leaves, Raises, Halts}
 
 -- the operation with its targets under a map

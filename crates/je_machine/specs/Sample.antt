@@ -1,15 +1,19 @@
 -- Small heaps, answers and methods, by which laws show what the machine does.
-use Rattle.std.specs.Prelude.{ℕ, ℤ, pos, List, [], ◌∷◌, Option, Some, None, codes}
+use Rattle.std.specs.Prelude.{ℕ, ℤ, pos, List, [], ◌∷◌, map, Option, Some, None, Bool, codes}
 use Rattle.std.specs.FinMap.{empty}
 use Rattle.je_desc.specs.FieldType.{FieldType, Base}
 use Rattle.je_desc.specs.FieldType as types
-use Rattle.je_machine.specs.Content.{Member, Method, Str}
-use Rattle.je_machine.specs.Value.{IntKind, FloatKind, ReferenceKind, Value, Int, Long, Null, Obj, Const}
+use Rattle.je_machine.specs.Content.{MemberTag, Member, Method, Str, MethodHandle}
+use Rattle.je_machine.specs.Value.{IntKind, FloatKind, ReferenceKind, Value, Int, Long, Null, Obj}
+use Rattle.je_machine.specs.Value.{Const}
 use Rattle.je_machine.specs.Heap.{Object, Array, Heap, Fields, new_instance}
 use Rattle.je_machine.specs.Classes.{Classes}
-use Rattle.je_machine.specs.Action.{Action, Sort, Static, Invoke, FloatOperation}
+use Rattle.je_machine.specs.Condition.{Comparison, Equals, Differs, IsLess, IsNotLess, IsGreater}
+use Rattle.je_machine.specs.Condition.{IsNotGreater, Condition, is_met}
+use Rattle.je_machine.specs.Action.{Action, Field, Sort, Static, Invoke, FloatOperation}
 use Rattle.je_machine.specs.Outside.{Outside, Answer, Gives, Throws, Response, Threw}
-use Rattle.je_machine.specs.Operation.{Act, Push, Throw, Do, Load, Store, Increment, Goto, Return, Handler, Program}
+use Rattle.je_machine.specs.Operation.{Act, Push, Throw, Do, Load, Store, Increment, Goto, Return}
+use Rattle.je_machine.specs.Operation.{Handler, Program}
 use Rattle.je_machine.specs.Step.{Ending, Outcome}
 
 -- ---- heaps of one to three objects, without events and answers
@@ -65,6 +69,18 @@ c_below_d = record {
       ∷ ((codes "C", codes "f", codes "I"), codes "E") ∷ [];
 }
 
+-- ---- constants and conditions
+
+-- a method handle of this kind
+abbrev pub handle : ℕ → MemberTag → List ℕ → List ℕ → List ℕ → Value
+handle kind tag class name type = Const (MethodHandle kind tag class name type)
+
+-- which of the six comparisons are met: =, ≠, <, ≥, > and ≤
+abbrev pub met : (Comparison → Condition) → List Value → List Bool
+met condition operands =
+    map (λ c. is_met (condition c) operands)
+    (Equals ∷ Differs ∷ IsLess ∷ IsNotLess ∷ IsGreater ∷ IsNotGreater ∷ [])
+
 -- ---- calls and answers
 
 abbrev pub before : Heap → List Answer → Outside
@@ -94,9 +110,26 @@ call_of sort =
 abbrev pub arguments : List Value
 arguments = Int (pos 3) ∷ Long (pos 4) ∷ []
 
+-- a method `static void C.n(C)`
+abbrev pub call_without_result : Action
+call_without_result =
+    Invoke Static (Member Method (codes "C") (codes "n") (codes "(LC;)V"))
+    (record { params = types.Object (codes "C") ∷ []; result = None })
+
+-- the fields `long C.g` and `int C.f`
+abbrev pub long_field : Field
+long_field = record { class = codes "C"; name = codes "g"; type = Base types.Long }
+
+abbrev pub int_field : Field
+int_field = record { class = codes "C"; name = codes "f"; type = Base types.Int }
+
 -- fadd
 abbrev pub float_sum : Action
 float_sum = FloatOperation 98 (FloatKind ∷ FloatKind ∷ []) FloatKind
+
+-- fcmpl
+abbrev pub float_comparison : Action
+float_comparison = FloatOperation 149 (FloatKind ∷ FloatKind ∷ []) IntKind
 
 -- ---- methods
 

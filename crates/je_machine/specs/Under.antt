@@ -1,10 +1,13 @@
 -- What an instruction takes from the stack, and what lies under it (JVMS 2.6.2).
-use Rattle.std.specs.Prelude.{ℕ, zero, suc, ◌-◌, ◌≤◌, List, [], ◌∷◌, ◌++◌, length, Some, Bool, true, false, IsTrue}
+use Rattle.std.specs.Prelude.{ℕ, zero, suc, ◌-◌, ◌≤◌, List, [], ◌∷◌, ◌++◌, length, Some, Bool, true}
+use Rattle.std.specs.Prelude.{false, IsTrue}
 use Rattle.je_machine.specs.Value.{Value, places_of}
 use Rattle.je_machine.specs.Condition.{condition_operands}
 use Rattle.je_machine.specs.Action.{operands_of}
-use Rattle.je_machine.specs.Operation.{Basic, Drop, Copy, Swap, Act, Throw, Operation, Do, Store, Branch, Switch, Return}
-use Rattle.je_machine.specs.Frame.{Flow, Falls, Jumps, Leaves, Raises, Halts, frame_of, under_places}
+use Rattle.je_machine.specs.Operation.{Basic, Drop, Copy, Swap, Act, Throw, Operation, Do, Store}
+use Rattle.je_machine.specs.Operation.{Branch, Switch, Return}
+use Rattle.je_machine.specs.Frame.{Flow, Falls, Jumps, Leaves, Raises, Halts, frame_of}
+use Rattle.je_machine.specs.Frame.{under_places}
 
 -- the values fill so many places
 abbrev pub has_places : ℕ → List Value → Bool

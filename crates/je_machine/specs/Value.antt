@@ -1,5 +1,6 @@
 -- Values of the machine (JVMS 2.3 and 2.4).
-use Rattle.std.specs.Prelude.{ℕ, zero, suc, ◌^◌, ℤ, pos, List, [], ◌∷◌, Bool, true, false, nat_lt, nat_eq, if◌then◌else◌}
+use Rattle.std.specs.Prelude.{ℕ, zero, suc, ◌^◌, ℤ, pos, List, [], ◌∷◌, Bool, true, false, nat_lt}
+use Rattle.std.specs.Prelude.{nat_eq, if◌then◌else◌}
 use Rattle.std.specs.Ordering.{int_eq}
 use Rattle.std.specs.Int.{w32, w64, int_wrap}
 use Rattle.je_desc.specs.FieldType.{FieldType, Base, Object, Array}

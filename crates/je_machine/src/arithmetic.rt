@@ -1,9 +1,23 @@
 //! Arithmetic, computed at the edges.
 
-ghost use Rattle.std.specs.Prelude.{◌≡◌, [], ◌∷◌, pos, negsuc, Some, None};
-ghost use Rattle.je_machine.specs.Value.{Int, Long};
-ghost use Rattle.je_machine.specs.Calculation.{Binary, Shift, Negate, Extend, Truncate, Keep, CompareLongs, IntWhole, LongWhole, Add, Subtract, Multiply, Divide, Remainder, And, Or, Xor, ShiftLeft, ShiftRight, ShiftRightUnsigned, BytePart, CharPart, ShortPart, calculate};
-ghost use Rattle.je_machine.specs.Sample.{ints};
+ghost use Rattle.std.specs.Prelude.{◌≡◌, List, [], ◌∷◌, pos, negsuc, Some, None, IfSome, IsTrue};
+ghost use Rattle.je_machine.specs.Value.{Value, Int, Long, is_of_kind};
+ghost use Rattle.je_machine.specs.Calculation.{Calculation, Binary, Shift, Negate, Extend};
+ghost use Rattle.je_machine.specs.Calculation.{Truncate, Keep, CompareLongs, IntWhole, LongWhole};
+ghost use Rattle.je_machine.specs.Calculation.{Add, Subtract, Multiply, Divide, Remainder, And, Or};
+ghost use Rattle.je_machine.specs.Calculation.{Xor, ShiftLeft, ShiftRight, ShiftRightUnsigned};
+ghost use Rattle.je_machine.specs.Calculation.{BytePart, CharPart, ShortPart, calculation_operands};
+ghost use Rattle.je_machine.specs.Calculation.{calculation_result, calculate};
+ghost use Rattle.je_machine.specs.Acts.{are_of_kinds};
+
+/// What is computed of operands of the right kinds, within the ranges of their types, is of the
+/// right kind (JVMS 2.11.3 and 2.11.4).
+pub fn results_keep_kinds()
+    ensures { (calculation : Calculation) (operands : List Value) →
+        IsTrue (are_of_kinds (calculation_operands calculation) operands)
+        → IfSome (calculate calculation operands)
+        (λ v. IsTrue (is_of_kind (calculation_result calculation) v)) }
+{}
 
 /// What instructions on ints compute at the edges (JVMS 6.5).
 pub fn ints_are_computed()

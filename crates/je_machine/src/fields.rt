@@ -1,9 +1,17 @@
 //! Laws of fields, over all heaps.
 
-ghost use Rattle.std.specs.Prelude.{◌≡◌, ◌≢◌, ℕ, List, Some};
+ghost use Rattle.std.specs.Prelude.{◌≡◌, ◌≢◌, ℕ, pos, List, [], ◌∷◌, Some, None, IsTrue, codes};
 ghost use Rattle.std.specs.Cmp.{IsTotalOrder};
-ghost use Rattle.je_machine.specs.Value.{Kind, Value, Obj, admit};
-ghost use Rattle.je_machine.specs.Heap.{FieldKey, Fields, Instance, Heap, key_cmp, object_of, read_static, write_static, read_field, write_field};
+ghost use Rattle.je_machine.specs.Content.{Str};
+ghost use Rattle.je_machine.specs.Value.{Kind, Value, Long, Obj, Const, kind_of, is_of_kind, admit};
+ghost use Rattle.je_machine.specs.Heap.{FieldKey, Fields, Instance, Heap, key_cmp, object_of};
+ghost use Rattle.je_machine.specs.Heap.{new_instance, read_static, write_static, read_field};
+ghost use Rattle.je_machine.specs.Heap.{write_field};
+ghost use Rattle.je_machine.specs.Classes.{Classes};
+ghost use Rattle.je_machine.specs.Action.{Field, GetField, PutField, GetStatic, PutStatic};
+ghost use Rattle.je_machine.specs.Outside.{Outside, Gave, with_heap};
+ghost use Rattle.je_machine.specs.Acting.{field_key, act};
+ghost use Rattle.je_machine.specs.Sample.{bytes, one_object, long_field};
 
 /// A static field is read as it was written, and other static fields stay.
 pub fn static_fields()
@@ -35,4 +43,47 @@ pub fn object_fields()
         (write_field key value (Obj number) heap).statics ≡ heap.statics }
     // The order of fields is total.
     ensures order { IsTotalOrder key_cmp }
+{}
+
+/// What the instructions on fields do with these (JVMS 6.5, getfield to putstatic). A field is that
+/// of the class that holds it.
+pub fn fields_are_used()
+    ensures get_static { (classes : Classes) (f : Field) (o : Outside) →
+        act classes (GetStatic f) [] o
+        ≡ Gave (Some (read_static o.heap (kind_of f.type) (field_key classes f))) o }
+    ensures put_static { (classes : Classes) (f : Field) (value : Value) (o : Outside) →
+        IsTrue (is_of_kind (kind_of f.type) value)
+        → act classes (PutStatic f) (value ∷ []) o
+        ≡ Gave None (with_heap (write_static (field_key classes f) value o.heap) o) }
+    ensures get { (classes : Classes) (f : Field) (number : ℕ) (o : Outside) →
+        act classes (GetField f) (Obj number ∷ []) o
+        ≡ Gave (Some (read_field o.heap (kind_of f.type) (field_key classes f) (Obj number))) o }
+    ensures put { (classes : Classes) (f : Field) (number : ℕ) (value : Value) (o : Outside) →
+        IsTrue (is_of_kind (kind_of f.type) value)
+        → act classes (PutField f) (Obj number ∷ value ∷ []) o
+        ≡ Gave None
+        (with_heap (write_field (field_key classes f) value (Obj number) o.heap) o) }
+    // What the heap lacks, an array and a constant read as zeros and take no writes.
+    ensures get_missing { (classes : Classes) →
+        act classes (GetField long_field) (Obj 5 ∷ []) (one_object bytes)
+        ≡ Gave (Some (Long (pos 0))) (one_object bytes) }
+    ensures get_array { (classes : Classes) →
+        act classes (GetField long_field) (Obj 0 ∷ []) (one_object bytes)
+        ≡ Gave (Some (Long (pos 0))) (one_object bytes) }
+    ensures get_constant { (classes : Classes) →
+        act classes (GetField long_field) (Const (Str []) ∷ []) (one_object bytes)
+        ≡ Gave (Some (Long (pos 0))) (one_object bytes) }
+    ensures put_missing { (classes : Classes) →
+        act classes (PutField long_field) (Obj 5 ∷ Long (pos 3) ∷ []) (one_object bytes)
+        ≡ Gave None (one_object bytes) }
+    ensures put_array { (classes : Classes) →
+        act classes (PutField long_field) (Obj 0 ∷ Long (pos 3) ∷ []) (one_object bytes)
+        ≡ Gave None (one_object bytes) }
+    ensures put_constant { (classes : Classes) →
+        act classes (PutField long_field) (Const (Str []) ∷ Long (pos 3) ∷ []) (one_object bytes)
+        ≡ Gave None (one_object bytes) }
+    // What was never written reads as the zero of its kind.
+    ensures get_new { (classes : Classes) →
+        act classes (GetField long_field) (Obj 0 ∷ []) (one_object (new_instance (codes "C")))
+        ≡ Gave (Some (Long (pos 0))) (one_object (new_instance (codes "C"))) }
 {}

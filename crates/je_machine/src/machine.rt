@@ -3,10 +3,11 @@
 ghost use Rattle.std.specs.Prelude.{◌≡◌, ℕ, ◌-◌, ◌≤◌, IsSome, Bool, IsTrue};
 ghost use Rattle.je_machine.specs.Classes.{Classes};
 ghost use Rattle.je_machine.specs.Operation.{Program};
-ghost use Rattle.je_machine.specs.Step.{iterate_all};
+ghost use Rattle.je_machine.specs.Step.{Step, iterate_all};
 ghost use Rattle.je_machine.specs.Machine.{State, machine_step};
 ghost use Rattle.je_machine.specs.IndexMap.{MovesProgram, moved_state};
-ghost use Rattle.je_machine.specs.View.{IsViewPrefix, IsSteady, view_of, with_more};
+ghost use Rattle.je_machine.specs.Simulation.{Pairs, Simulates};
+ghost use Rattle.je_machine.specs.View.{IsViewPrefix, IsSteady, AgreeingRuns, view_of, with_more};
 
 /// The machine's step is one of those that the laws on longer bounds speak of.
 pub fn machine_runs()
@@ -18,6 +19,12 @@ pub fn machine_runs()
         → IsSome (iterate_all (machine_step p classes) m s).ending
         → iterate_all (machine_step p classes) n s
         ≡ with_more (n - m) (iterate_all (machine_step p classes) m s) }
+    // Where the machine follows each step of another run over its states, both show the same.
+    ensures agrees { (p : Program) (classes : Classes) (pairs : Pairs State State State)
+        (old : Step State) →
+        Simulates pairs old (machine_step p classes) → (s : State) → AgreeingRuns
+        (λ k. iterate_all old k (pairs.old s))
+        (λ m. iterate_all (machine_step p classes) m (pairs.new s)) }
 {}
 
 /// A program whose instructions stand at other places comes to the same, at each bound. The places

@@ -1,15 +1,44 @@
 //! Laws of runs, over all steps and all types of states.
 
-ghost use Rattle.std.specs.Prelude.{◌≡◌, ℕ, ◌+◌, ◌-◌, ◌≤◌, IsSome};
-ghost use Rattle.je_machine.specs.Step.{Step, Outcome, Takes, Chain, ComesTo, iterate_all};
+ghost use Rattle.std.specs.Prelude.{◌≡◌, ℕ, ◌+◌, ◌-◌, ◌≤◌, List, ◌++◌, Some, None, IsSome};
+ghost use Rattle.je_machine.specs.Value.{Value};
+ghost use Rattle.je_machine.specs.Outside.{Event, Outside};
+ghost use Rattle.je_machine.specs.Step.{Step, Ending, Outcome, Takes, Chain, ComesTo, iterate_all};
 ghost use Rattle.je_machine.specs.Simulation.{Pairs, Simulates};
-ghost use Rattle.je_machine.specs.View.{View, IsViewPrefix, IsSteady, Follows, AgreeingRuns, view_of, with_more};
+ghost use Rattle.je_machine.specs.View.{View, IsViewPrefix, BeginsEvents, IsSteady, Follows};
+ghost use Rattle.je_machine.specs.View.{AgreeingRuns, view_of, with_more};
+ghost use Rattle.je_machine.specs.Sample.{outcome};
 
 /// Beginning a view is a partial order.
 pub fn views_begin_views()
     ensures reflexive { (v : View) → IsViewPrefix v v }
     ensures transitive { (u v w : View) → IsViewPrefix u v → IsViewPrefix v w → IsViewPrefix u w }
     ensures antisymmetric { (v w : View) → IsViewPrefix v w → IsViewPrefix w v → v ≡ w }
+{}
+
+/// What a view shows, and what it is for one to begin another.
+pub fn views_show()
+    // The events, and once the run has ended how, and the heap; not the local variables, nor the
+    // answers that are left.
+    ensures going { (left : ℕ) (locals : List Value) (o : Outside) →
+        view_of (outcome None left locals o)
+        ≡ record { events = o.events; end = None } }
+    ensures ended { (ending : Ending) (left : ℕ) (locals : List Value) (o : Outside) →
+        view_of (outcome (Some ending) left locals o)
+        ≡ record { events = o.events; end = Some (ending, o.heap) } }
+    ensures events { (v w : View) → IsViewPrefix v w
+        → (more : List Event) × (w.events ≡ v.events ++ more) }
+    ensures stays { (v w : View) → IsViewPrefix v w → IsSome v.end → w ≡ v }
+    // Runs that agree end alike, with the same events and heap.
+    ensures alike { (old new : ℕ → Outcome) → AgreeingRuns old new → (n : ℕ)
+        → IsSome (view_of (old n)).end → (m : ℕ) × (view_of (new m) ≡ view_of (old n)) }
+    ensures no_more { (old new : ℕ → Outcome) → AgreeingRuns old new → (n : ℕ)
+        → IsSome (view_of (new n)).end → (m : ℕ) × (view_of (old m) ≡ view_of (new n)) }
+    // Each shows the events of the other, and may show more.
+    ensures shown { (old new : ℕ → Outcome) → AgreeingRuns old new → (n : ℕ)
+        → (m : ℕ) × BeginsEvents (old n).outside (new m).outside }
+    ensures shown_back { (old new : ℕ → Outcome) → AgreeingRuns old new → (n : ℕ)
+        → (m : ℕ) × BeginsEvents (new n).outside (old m).outside }
 {}
 
 /// A longer bound only extends what a run shows, and what has ended stays as it is.

@@ -49,3 +49,27 @@ returns-clause-monitor_left c = λ classes heap answers. refl
 pub returns-clause-operand_kinds : goal.returns-clause-operand_kinds
 unfolding int_wrap
 returns-clause-operand_kinds c = λ class name. refl
+
+pub returns-clause-target : goal.returns-clause-target
+unfolding int_wrap
+returns-clause-target c = λ classes heap after. refl
+
+pub returns-clause-other_operands : goal.returns-clause-other_operands
+unfolding int_wrap
+returns-clause-other_operands c = λ classes heap after. refl
+
+pub returns-clause-float_first : goal.returns-clause-float_first
+unfolding int_wrap
+returns-clause-float_first c = λ classes heap after answers. refl
+
+pub returns-clause-float_kind : goal.returns-clause-float_kind
+unfolding int_wrap
+returns-clause-float_kind c = λ classes heap after. refl
+
+pub returns-clause-float_throws_number : goal.returns-clause-float_throws_number
+unfolding int_wrap
+returns-clause-float_throws_number c = λ classes heap after. refl
+
+pub returns-clause-float_compares : goal.returns-clause-float_compares
+unfolding int_wrap
+returns-clause-float_compares c = λ classes heap after. refl

@@ -53,3 +53,51 @@ returns-clause-index_before_class c = refl
 pub returns-clause-null_is_stored : goal.returns-clause-null_is_stored
 unfolding int_wrap
 returns-clause-null_is_stored c = refl
+
+pub returns-clause-second_element : goal.returns-clause-second_element
+unfolding int_wrap
+returns-clause-second_element c = λ classes. refl
+
+pub returns-clause-second_loaded : goal.returns-clause-second_loaded
+unfolding int_wrap
+returns-clause-second_loaded c = λ classes. refl
+
+pub returns-clause-long : goal.returns-clause-long
+unfolding int_wrap
+returns-clause-long c = λ classes. refl
+
+pub returns-clause-other_kind : goal.returns-clause-other_kind
+unfolding int_wrap
+returns-clause-other_kind c = λ classes. refl
+
+pub returns-clause-no_array : goal.returns-clause-no_array
+unfolding int_wrap
+returns-clause-no_array c = λ classes. refl
+
+pub returns-clause-no_object : goal.returns-clause-no_object
+unfolding int_wrap
+returns-clause-no_object c = λ classes. refl
+
+pub returns-clause-constant : goal.returns-clause-constant
+unfolding int_wrap
+returns-clause-constant c = λ classes. refl
+
+pub returns-clause-subclass_is_stored : goal.returns-clause-subclass_is_stored
+unfolding int_wrap
+returns-clause-subclass_is_stored c = refl
+
+pub returns-clause-superclass_is_not : goal.returns-clause-superclass_is_not
+unfolding int_wrap
+returns-clause-superclass_is_not c = refl
+
+pub returns-clause-array_is_stored : goal.returns-clause-array_is_stored
+unfolding int_wrap
+returns-clause-array_is_stored c = λ classes. refl
+
+pub returns-clause-no_references : goal.returns-clause-no_references
+unfolding int_wrap
+returns-clause-no_references c = λ classes. refl
+
+pub returns-clause-wide_element : goal.returns-clause-wide_element
+unfolding int_wrap
+returns-clause-wide_element c = λ classes. refl

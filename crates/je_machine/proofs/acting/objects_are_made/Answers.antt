@@ -45,3 +45,31 @@ returns-clause-null_is_none c = refl
 pub returns-clause-by_zero : goal.returns-clause-by_zero
 unfolding int_wrap
 returns-clause-by_zero c = λ classes. refl
+
+pub returns-clause-both_elements : goal.returns-clause-both_elements
+unfolding int_wrap
+returns-clause-both_elements c = λ classes. refl
+
+pub returns-clause-no_elements : goal.returns-clause-no_elements
+unfolding int_wrap
+returns-clause-no_elements c = λ classes. refl
+
+pub returns-clause-outer_dimensions : goal.returns-clause-outer_dimensions
+unfolding int_wrap
+returns-clause-outer_dimensions c = λ classes. refl
+
+pub returns-clause-longs : goal.returns-clause-longs
+unfolding int_wrap
+returns-clause-longs c = λ classes. refl
+
+pub returns-clause-references : goal.returns-clause-references
+unfolding int_wrap
+returns-clause-references c = λ classes. refl
+
+pub returns-clause-constant_cast : goal.returns-clause-constant_cast
+unfolding int_wrap
+returns-clause-constant_cast c = λ classes. refl
+
+pub returns-clause-no_instance : goal.returns-clause-no_instance
+unfolding int_wrap
+returns-clause-no_instance c = refl

@@ -45,3 +45,43 @@ returns-clause-other_descriptor c = refl
 pub returns-clause-instance_of_null : goal.returns-clause-instance_of_null
 unfolding int_wrap
 returns-clause-instance_of_null c = λ heap. refl
+
+pub returns-clause-object : goal.returns-clause-object
+unfolding int_wrap
+returns-clause-object c = λ fields others. refl
+
+pub returns-clause-array : goal.returns-clause-array
+unfolding int_wrap
+returns-clause-array c = λ fields others. refl
+
+pub returns-clause-equal_names : goal.returns-clause-equal_names
+unfolding int_wrap
+returns-clause-equal_names c = refl
+
+pub returns-clause-not_listed : goal.returns-clause-not_listed
+unfolding int_wrap
+returns-clause-not_listed c = refl
+
+pub returns-clause-key : goal.returns-clause-key
+unfolding int_wrap
+returns-clause-key c = refl
+
+pub returns-clause-other_key : goal.returns-clause-other_key
+unfolding int_wrap
+returns-clause-other_key c = refl
+
+pub returns-clause-component : goal.returns-clause-component
+unfolding int_wrap
+returns-clause-component c = refl
+
+pub returns-clause-array_component : goal.returns-clause-array_component
+unfolding int_wrap
+returns-clause-array_component c = refl
+
+pub returns-clause-no_class : goal.returns-clause-no_class
+unfolding int_wrap
+returns-clause-no_class c = refl
+
+pub returns-clause-not_chained : goal.returns-clause-not_chained
+unfolding int_wrap
+returns-clause-not_chained c = λ holders. refl

@@ -61,3 +61,71 @@ returns-clause-second_case c = refl
 pub returns-clause-no_case : goal.returns-clause-no_case
 unfolding int_wrap
 returns-clause-no_case c = refl
+
+pub returns-clause-less : goal.returns-clause-less
+unfolding int_wrap
+returns-clause-less c = refl
+
+pub returns-clause-equal : goal.returns-clause-equal
+unfolding int_wrap
+returns-clause-equal c = refl
+
+pub returns-clause-greater : goal.returns-clause-greater
+unfolding int_wrap
+returns-clause-greater c = refl
+
+pub returns-clause-below_zero : goal.returns-clause-below_zero
+unfolding int_wrap
+returns-clause-below_zero c = refl
+
+pub returns-clause-at_zero : goal.returns-clause-at_zero
+unfolding int_wrap
+returns-clause-at_zero c = refl
+
+pub returns-clause-above_zero : goal.returns-clause-above_zero
+unfolding int_wrap
+returns-clause-above_zero c = refl
+
+pub returns-clause-not_null : goal.returns-clause-not_null
+unfolding int_wrap
+returns-clause-not_null c = refl
+
+pub returns-clause-one_object : goal.returns-clause-one_object
+unfolding int_wrap
+returns-clause-one_object c = refl
+
+pub returns-clause-two_nulls : goal.returns-clause-two_nulls
+unfolding int_wrap
+returns-clause-two_nulls c = refl
+
+pub returns-clause-null_and_object : goal.returns-clause-null_and_object
+unfolding int_wrap
+returns-clause-null_and_object c = refl
+
+pub returns-clause-object_and_constant : goal.returns-clause-object_and_constant
+unfolding int_wrap
+returns-clause-object_and_constant c = refl
+
+pub returns-clause-other_content : goal.returns-clause-other_content
+unfolding int_wrap
+returns-clause-other_content c = refl
+
+pub returns-clause-class_and_type : goal.returns-clause-class_and_type
+unfolding int_wrap
+returns-clause-class_and_type c = refl
+
+pub returns-clause-one_type : goal.returns-clause-one_type
+unfolding int_wrap
+returns-clause-one_type c = refl
+
+pub returns-clause-handles : goal.returns-clause-handles
+unfolding int_wrap
+returns-clause-handles c = refl
+
+pub returns-clause-other_class : goal.returns-clause-other_class
+unfolding int_wrap
+returns-clause-other_class c = refl
+
+pub returns-clause-other_type : goal.returns-clause-other_type
+unfolding int_wrap
+returns-clause-other_type c = refl

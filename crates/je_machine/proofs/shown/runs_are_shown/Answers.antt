@@ -49,3 +49,15 @@ returns-clause-uncaught c = λ heap. refl
 pub returns-clause-counted : goal.returns-clause-counted
 unfolding int_wrap
 returns-clause-counted c = λ heap. refl
+
+pub returns-clause-none_fits : goal.returns-clause-none_fits
+unfolding int_wrap
+returns-clause-none_fits c = λ heap. refl
+
+pub returns-clause-waiting : goal.returns-clause-waiting
+unfolding int_wrap
+returns-clause-waiting c = λ heap. refl
+
+pub returns-clause-past_the_code : goal.returns-clause-past_the_code
+unfolding int_wrap
+returns-clause-past_the_code c = λ heap. refl

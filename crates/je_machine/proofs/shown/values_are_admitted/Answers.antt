@@ -49,3 +49,43 @@ returns-clause-missing c = refl
 pub returns-clause-too_many : goal.returns-clause-too_many
 unfolding int_wrap
 returns-clause-too_many c = refl
+
+pub returns-clause-least_long : goal.returns-clause-least_long
+unfolding int_wrap
+returns-clause-least_long c = refl
+
+pub returns-clause-below_longs : goal.returns-clause-below_longs
+unfolding int_wrap
+returns-clause-below_longs c = refl
+
+pub returns-clause-int_for_long : goal.returns-clause-int_for_long
+unfolding int_wrap
+returns-clause-int_for_long c = refl
+
+pub returns-clause-null_for_double : goal.returns-clause-null_for_double
+unfolding int_wrap
+returns-clause-null_for_double c = refl
+
+pub returns-clause-greatest_float_bits : goal.returns-clause-greatest_float_bits
+unfolding int_wrap
+returns-clause-greatest_float_bits c = refl
+
+pub returns-clause-double_bits : goal.returns-clause-double_bits
+unfolding int_wrap
+returns-clause-double_bits c = refl
+
+pub returns-clause-greatest_double_bits : goal.returns-clause-greatest_double_bits
+unfolding int_wrap
+returns-clause-greatest_double_bits c = refl
+
+pub returns-clause-object : goal.returns-clause-object
+unfolding int_wrap
+returns-clause-object c = λ number. refl
+
+pub returns-clause-string : goal.returns-clause-string
+unfolding int_wrap
+returns-clause-string c = λ t. refl
+
+pub returns-clause-method_type : goal.returns-clause-method_type
+unfolding int_wrap
+returns-clause-method_type c = λ t. refl
