@@ -1,5 +1,8 @@
 use je_consts::Consts;
-use je_instr::{CodeStop, Instr, called_method, decode, encode, read_code, write_code};
+use je_instr::{
+    Case, CodeStop, Instr, called_method, decode, encode, opcodes, read_code, write_code,
+};
+use sqlite_items::Items;
 use std::test::*;
 
 /// Calls the method of constant 10 and returns.
@@ -12,8 +15,15 @@ fn call_and_return(rt: HostRuntime) -> Result<(), Fail> {
     let instrs = decode(rt.alloc(), &CODE)
         .ok()
         .ok_or("the code is of the forms read")?;
-    let expected = [Instr::InvokeStatic(10), Instr::Return];
-    assert_eq!(rt; instrs.as_slice(), expected.as_slice());
+    assert!(rt;
+        matches!(
+            instrs.as_slice(),
+            [
+                Instr::Invoke(opcodes::INVOKESTATIC, 10),
+                Instr::Simple(opcodes::RETURN)
+            ]
+        )
+    );
     let code = encode(rt.alloc(), &instrs).ok().ok_or("there is memory")?;
     assert_eq!(rt; code.as_slice(), CODE.as_slice());
     Ok(())
@@ -66,5 +76,25 @@ fn callee(rt: HostRuntime) -> Result<(), Fail> {
     }
     let consts = pool(&rt, CONSTRUCTED)?;
     assert!(rt; called_method(&consts, 6).is_none());
+    Ok(())
+}
+
+#[test]
+fn copies(rt: HostRuntime) -> Result<(), Fail> {
+    let targets = Items::from_slice(rt.alloc(), &[3, 9])?;
+    let table = Instr::TableSwitch(-1, targets, 7);
+    let Ok(Instr::TableSwitch(low, targets, fallback)) = table.copy(rt.alloc()) else {
+        return Err("a switch is copied".into());
+    };
+    assert_eq!(rt; low, -1);
+    assert_eq!(rt; targets.as_slice(), [3, 9].as_slice());
+    assert_eq!(rt; fallback, 7);
+    let cases = [Case { key: -5, target: 2 }, Case { key: 8, target: 4 }];
+    let lookup = Instr::LookupSwitch(Items::from_slice(rt.alloc(), &cases)?, 1);
+    let Ok(Instr::LookupSwitch(copied, fallback)) = lookup.copy(rt.alloc()) else {
+        return Err("a switch is copied".into());
+    };
+    assert_eq!(rt; copied.as_slice(), cases.as_slice());
+    assert_eq!(rt; fallback, 1);
     Ok(())
 }

@@ -1,8 +1,29 @@
--- What a constant has to be to name a method.
-use Rattle.std.specs.Prelude.{Option, Some, None}
-use Rattle.je_instr.specs.Content.{Content, Member, Method}
+-- The methods that are called so far (JVMS 6.5, invokestatic), and what a constant has to be to
+-- name one.
+use Rattle.std.specs.Prelude.{◌≡◌, ◌≢◌, ℕ, List, codes, Some}
+use Rattle.je_consts.specs.declared.place.Place.{Place}
+use Rattle.je_desc.specs.Names.{IsClassName}
+use Rattle.je_machine.specs.Content.{Member, Method}
+use Rattle.je_instr.specs.declared.instr.Instr.{Instr}
+use Rattle.je_instr.specs.declared.instr.Instr.TheVariants.{Invoke}
+use Rattle.je_instr.specs.Content.{content_at}
 
--- the content of a method, and none of any other
-abbrev pub of_method : Option Content → Option Content
-of_method (Some (Member Method class name descriptor)) = Some (Member Method class name descriptor)
-of_method _ = None
+-- A method whose class is no array, that is neither a constructor nor a class initialiser (JVMS
+-- 2.9), and that has neither parameters nor a result.
+pub record IsCallable (class name descriptor : List ℕ) : Type 0 where
+  pub class_name : IsClassName class
+  pub no_constructor : name ≢ codes "<init>"
+  pub no_initialiser : name ≢ codes "<clinit>"
+  pub plain : descriptor ≡ codes "()V"
+
+-- the constant is a method that may be called so far
+abbrev pub IsCallee : List Place → ℕ → Type 0
+IsCallee consts index =
+    (class : List ℕ) × (name : List ℕ) × (descriptor : List ℕ)
+    × (content_at consts index ≡ Some (Member Method class name descriptor))
+    × IsCallable class name descriptor
+
+-- an instruction that names no constant, or a method that may be called so far
+abbrev pub CallsSoFar : List Place → Instr → Type 0
+CallsSoFar consts (Invoke opcode index) = IsCallee consts index
+CallsSoFar consts _ = Unit {0}

@@ -3,7 +3,8 @@ use Rattle.std.specs.Prelude.{◌≡◌, ℕ, ◌^◌, ◌<◌, List, ◌++◌, 
 use Rattle.std.specs.List.{AllByRecursion}
 use Rattle.je_base.specs.Bytes.{u2, u4, table, attribute_info}
 
--- an entry of the exception table, with byte offsets and the index of the class that is caught, or 0
+-- an entry of the exception table, with byte offsets and the index of the class that is caught, or
+-- 0
 pub record RawHandler : Type 0 where
   pub start : ℕ
   pub end : ℕ
@@ -47,7 +48,8 @@ pub record FitsAttribute (a : AttributeInfo) : Type 0 where
 abbrev pub FitsTable : {A : Type 0} → (A → Type 0) → List A → Type 0
 FitsTable Fits items = (length items < 2 ^ 16) × AllByRecursion Fits items
 
--- The content of a Code attribute is these parts, and each fits its bytes. There is code, of at most 65,535 bytes.
+-- The content of a Code attribute is these parts, and each fits its bytes. There is code, of at
+-- most 65,535 bytes.
 pub record CodeBytes (bytes : List ℕ) (c : Code) : Type 0 where
   pub layout : bytes ≡ code_layout c
   pub max_stack : c.max_stack < 2 ^ 16

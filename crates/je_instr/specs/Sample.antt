@@ -1,31 +1,50 @@
--- A method of four instructions, by which a law of the machine shows what a run is.
-use Rattle.std.specs.Prelude.{◌≡◌, ℕ, List, [], ◌∷◌, Option}
-use Rattle.je_instr.specs.Content.{Content}
-use Rattle.je_instr.specs.Value.{Value, Obj}
-use Rattle.je_instr.specs.Heap.{Heap, Classes}
-use Rattle.je_instr.specs.Operation.{Nop, Return, InvokeStatic, Program}
-use Rattle.je_instr.specs.Outside.{Answer, Event, Gives, Throws}
-use Rattle.je_instr.specs.Machine.{Ending, run_of}
-use Rattle.je_instr.specs.View.{view_of}
+-- A method of four instructions, by which a law shows what a run is.
+use Rattle.std.specs.Prelude.{◌≡◌, ℕ, List, [], ◌∷◌, Option, Some, None}
+use Rattle.std.specs.List.{AllZip}
+use Rattle.je_consts.specs.declared.place.Place.{Place}
+use Rattle.je_machine.specs.Content.{Content, Member, Method}
+use Rattle.je_machine.specs.Heap.{Heap}
+use Rattle.je_machine.specs.Classes.{Classes}
+use Rattle.je_machine.specs.Action.{Action, Static, Invoke}
+use Rattle.je_machine.specs.Operation.{Program}
+use Rattle.je_machine.specs.Outside.{Answer, Event}
+use Rattle.je_machine.specs.Step.{Ending}
+use Rattle.je_machine.specs.Machine.{run_of}
+use Rattle.je_machine.specs.View.{view_of}
+use Rattle.je_instr.specs.declared.instr.Instr.{Instr}
+use Rattle.je_instr.specs.declared.instr.Instr.TheVariants as instr
+use Rattle.je_instr.specs.declared.opcodes.TheConstants as op
+use Rattle.je_instr.specs.Callee.{IsCallable}
+use Rattle.je_instr.specs.Content.{content_at}
+use Rattle.je_instr.specs.Resolves.{Resolves}
 
 -- calls a method, does nothing, calls another and returns
-abbrev pub calls_two : Content → Content → Program
-calls_two first second =
-    record { parameters = []; operations = InvokeStatic first ∷ Nop ∷ InvokeStatic second ∷ Return ∷ []; handlers = [] }
+abbrev pub two_calls : ℕ → ℕ → List Instr
+two_calls first second =
+    instr.Invoke op.INVOKESTATIC first ∷ instr.Simple op.NOP
+    ∷ instr.Invoke op.INVOKESTATIC second ∷ instr.Simple op.RETURN ∷ []
 
--- what the outside sees of a call
+-- the call of a method without parameters and result
+abbrev pub plain_call : Content → Action
+plain_call method = Invoke Static method (record { params = []; result = None })
+
+-- what the outside sees of it
 abbrev pub call_event : Content → Heap → Event
-call_event method heap = record { operation = InvokeStatic method; operands = []; heap = heap }
+call_event method heap = record { action = plain_call method; operands = []; heap = heap }
 
--- the called method returned and left this heap
-abbrev pub value_answer : Value → Heap → Answer
-value_answer value heap = record { reply = Gives value; heap = heap }
+-- the constant is this method, which may be called so far
+pub record CallsPlain (consts : List Place) (index : ℕ) (class name text : List ℕ) : Type 0 where
+  pub here : content_at consts index ≡ Some (Member Method class name text)
+  pub callable : IsCallable class name text
 
--- the called method threw the object of this number and left this heap
-abbrev pub throw_answer : ℕ → Heap → Answer
-throw_answer number heap = record { reply = Throws (Obj number); heap = heap }
+-- the program of these instructions, in a method without parameters and handlers
+pub record IsTwoCalls (consts : List Place) (first second : ℕ) (p : Program) : Type 0 where
+  pub parameters : p.parameters ≡ []
+  pub operations : AllZip (Resolves consts) (two_calls first second) p.operations
+  pub handlers : p.handlers ≡ []
 
--- what four steps of the method show
-abbrev pub Shows : Content → Content → Heap → List Answer → List Event → Option (Ending × Heap) → Type 0
-Shows first second heap answers events end =
-    (classes : Classes) → view_of (run_of (calls_two first second) classes [] heap answers 4) ≡ record { events = events; end = end }
+-- what four steps of the program show
+abbrev pub Shows : Program → Heap → List Answer → List Event → Option (Ending × Heap) → Type 0
+Shows p heap answers events end =
+    (classes : Classes) → view_of (run_of p classes [] heap answers 4)
+    ≡ record { events = events; end = end }

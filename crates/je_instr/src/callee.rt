@@ -2,12 +2,13 @@
 
 ghost use Rattle.std.specs.Prelude.{◌≡◌, ℕ, ◌↔◌, List, Some, codes, IsTrue, IfSome, IfNone};
 ghost use Rattle.std.specs.Option.{option_map};
-ghost use Rattle.je_instr.specs.Content.{Member, Method, content_at};
-ghost use Rattle.je_instr.specs.Callee.{of_method};
-ghost use Rattle.je_instr.specs.Resolves.{IsCallable};
+ghost use Rattle.je_machine.specs.Content.{Member, Method};
+ghost use Rattle.je_instr.specs.Content.{content_at};
+ghost use Rattle.je_instr.specs.Callee.{IsCallable};
+ghost use Rattle.je_instr.specs.Methods.{of_method};
 
 use je_base::Text;
-use je_consts::{Const, Consts};
+use je_consts::{Const, ConstIndex, Consts};
 use je_desc::is_class_name;
 
 /// The name of constructors (JVMS 2.9.1).
@@ -26,7 +27,7 @@ fn is_callable(class: &[u8], name: &[u8], descriptor: &[u8]) -> bool
 }
 
 /// The class, the name and the descriptor of a method.
-fn method_at(consts: &Consts, index: u16) -> Option<(&Text, &Text, &Text)>
+fn method_at(consts: &Consts, index: ConstIndex) -> Option<(&Text, &Text, &Text)>
     ensures { option_map (λ m. Member Method m.0.now m.1.now m.2.now) result
         ≡ of_method (content_at consts.now index) }
 {
@@ -42,7 +43,7 @@ fn method_at(consts: &Consts, index: u16) -> Option<(&Text, &Text, &Text)>
 ///
 /// `None`: the constant is no method, or a method that no instruction may call: one of an array, a
 /// constructor, a class initialiser, or so far one with parameters or a result.
-pub fn called_method(consts: &Consts, index: u16) -> Option<(&Text, &Text)>
+pub fn called_method(consts: &Consts, index: ConstIndex) -> Option<(&Text, &Text)>
     ensures found { IfSome result (λ m. content_at consts.now index
         ≡ Some (Member Method m.0.now m.1.now (codes "()V"))) }
     ensures callable { IfSome result (λ m. IsCallable m.0.now m.1.now (codes "()V")) }

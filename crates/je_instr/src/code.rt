@@ -4,8 +4,8 @@ ghost use Rattle.std.specs.Prelude.{◌≡◌, ◌↔◌, ◌<◌, ◌^◌, [], 
 ghost use Rattle.std.specs.List.{AllByRecursion};
 ghost use Rattle.je_instr.specs.Spelling.{code_bytes, FitsInstr};
 ghost use Rattle.je_instr.specs.Code.{CodeBytes};
-ghost use Rattle.je_instr.specs.Plain.{plain_code, head_view};
-ghost use Rattle.je_instr.specs.Reading.{IsHead};
+ghost use Rattle.je_instr.specs.Plain.{plain_code};
+ghost use Rattle.je_instr.specs.Reading.{IsHead, head_view};
 ghost use Rattle.je_instr.specs.Reading as parts;
 
 use crate::decoding::decode;
@@ -65,6 +65,8 @@ fn are_empty_tables(bytes: &[u8]) -> bool
 
 /// Reads the content of a Code attribute without handlers and attributes (JVMS 4.7.3).
 ///
+/// # Errors
+///
 /// `NotYet`: it has a handler, an attribute, an instruction that is not read so far, no code or
 /// more than 65,535 bytes of it, or ends too early or too late. `Memory`: there was not enough
 /// memory.
@@ -93,7 +95,11 @@ pub fn read_code(alloc: Global, info: &[u8]) -> Result<MethodCode, CodeStop>
     })
 }
 
-/// The content of the Code attribute (JVMS 4.7.3). It fails only for want of memory.
+/// The content of the Code attribute (JVMS 4.7.3).
+///
+/// # Errors
+///
+/// `Memory`: there was not enough memory.
 pub fn write_code(alloc: Global, code: &MethodCode) -> Result<Vec<u8>, Memory>
     // There is code, of at most 65,535 bytes.
     requires some { 0 < length (code_bytes code.now.instrs) }

@@ -7,6 +7,7 @@ ghost use Rattle.je_instr.specs.Spelling.{code_bytes, FitsInstr};
 ghost use Rattle.je_instr.specs.Reading.{instr_at};
 
 use crate::instr::Instr;
+use crate::opcodes;
 use crate::stop::CodeStop;
 use std::alloc::Global;
 
@@ -15,17 +16,19 @@ fn instr_at(bytes: &[u8]) -> Option<(Instr, &[u8])>
     ensures { option_map (λ x. (x.0, x.1.now)) result ≡ instr_at bytes.now }
 {
     match bytes {
-        [0, rest @ ..] => Some((Instr::Nop, rest)),
-        [177, rest @ ..] => Some((Instr::Return, rest)),
-        [184, high, low, rest @ ..] => {
+        [opcodes::NOP, rest @ ..] => Some((Instr::Simple(opcodes::NOP), rest)),
+        [opcodes::RETURN, rest @ ..] => Some((Instr::Simple(opcodes::RETURN), rest)),
+        [opcodes::INVOKESTATIC, high, low, rest @ ..] => {
             let index = u16::from_be_bytes([*high, *low]);
-            Some((Instr::InvokeStatic(index), rest))
+            Some((Instr::Invoke(opcodes::INVOKESTATIC, index), rest))
         }
         _ => None,
     }
 }
 
 /// The instructions that the code spells (JVMS 6.5).
+///
+/// # Errors
 ///
 /// `NotYet`: where an instruction should begin stands none that is read so far, or the last one is
 /// cut. `Memory`: there was not enough memory.

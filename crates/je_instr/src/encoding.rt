@@ -7,27 +7,32 @@ use crate::instr::Instr;
 use je_base::{Memory, put_u16};
 use std::alloc::Global;
 
-fn put_instr(out: &mut Vec<u8>, instr: Instr) -> Result<(), Memory>
-    ensures { OnOk result (out.new.items ≡ out.old.items ++ instr_bytes instr) }
+fn put_instr(out: &mut Vec<u8>, instr: &Instr) -> Result<(), Memory>
+    ensures { OnOk result (out.new.items ≡ out.old.items ++ instr_bytes instr.now) }
 {
     match instr {
-        Instr::Nop => out.push(0)?,
-        Instr::Return => out.push(177)?,
-        Instr::InvokeStatic(index) => {
-            out.push(184)?;
-            put_u16(out, index)?;
+        Instr::Simple(opcode) => out.push(*opcode)?,
+        Instr::Invoke(opcode, index) => {
+            out.push(*opcode)?;
+            put_u16(out, *index)?;
         }
+        _ => {}
     }
     Ok(())
 }
 
-/// The code that spells the instructions (JVMS 6.5). It fails only for want of memory.
+/// The code that spells the instructions (JVMS 6.5). An instruction of a form that is not read so
+/// far adds nothing to it.
+///
+/// # Errors
+///
+/// `Memory`: there was not enough memory.
 pub fn encode(alloc: Global, instrs: &[Instr]) -> Result<Vec<u8>, Memory>
     ensures { IfOk result (λ v. v.items ≡ code_bytes instrs.now) }
 {
     let mut out = Vec::new(alloc);
     for instr in instrs {
-        put_instr(&mut out, *instr)?;
+        put_instr(&mut out, instr)?;
     }
     Ok(out)
 }

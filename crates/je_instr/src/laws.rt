@@ -1,54 +1,43 @@
-//! Laws of the machine and of the bytes, over all runs and all programs.
+//! Laws of the bytes, of constants and of what instructions are, over all programs.
 
-ghost use Rattle.std.specs.Prelude.{◌≡◌, ℕ, ◌-◌, ◌≤◌, List, [], ◌∷◌, Some, None, IsSome};
+ghost use Rattle.std.specs.Prelude.{◌≡◌, ℕ, ◌↔◌, List, [], ◌∷◌, Bool, codes, Some, None, IsSome};
 ghost use Rattle.std.specs.List.{AllByRecursion, AllZip};
 ghost use Rattle.je_consts.specs.declared.constant.Const.TheVariants as entry;
 ghost use Rattle.je_consts.specs.declared.constant.MemberTag as consts;
 ghost use Rattle.je_consts.specs.declared.place.Place.{Place};
 ghost use Rattle.je_consts.specs.Adding.{Keeps, NamesMember};
 ghost use Rattle.je_consts.specs.Pool.{const_at, class_at, text_at, NamesAndTypes, IsPool};
+ghost use Rattle.je_desc.specs.Descriptor.{MethodTypes};
+ghost use Rattle.je_machine.specs.Content.{Content, Class, Str, Member, Method, NameAndType, MethodHandle, MethodType, InvokeDynamic};
+ghost use Rattle.je_machine.specs.Action.{Static, Invoke};
+ghost use Rattle.je_machine.specs.Operation.{Nop, Act, Operation, Do, Return, Program};
 ghost use Rattle.je_instr.specs.declared.instr.Instr.{Instr};
-ghost use Rattle.je_instr.specs.Content.{Content, Class, Str, Member, NameAndType, MethodHandle, MethodType, InvokeDynamic, sort_of, content_at};
-ghost use Rattle.je_instr.specs.Value.{Value, Obj};
-ghost use Rattle.je_instr.specs.Heap.{Heap, Classes};
-ghost use Rattle.je_instr.specs.Operation.{Operation, Nop, Return, InvokeStatic, Program};
-ghost use Rattle.je_instr.specs.Machine.{State, Step, Returned, Thrown, machine_step, iterate_all};
+ghost use Rattle.je_instr.specs.declared.instr.Instr.TheVariants as instr;
+ghost use Rattle.je_instr.specs.declared.opcodes.TheConstants as op;
+ghost use Rattle.je_instr.specs.Content.{sort_of, content_at};
 ghost use Rattle.je_instr.specs.Code.{Code, CodeBytes};
+ghost use Rattle.je_instr.specs.CodeProgram.{CodeProgram};
+ghost use Rattle.je_instr.specs.Allowed.{IsAllowed};
+ghost use Rattle.je_instr.specs.Callee.{IsCallable};
 ghost use Rattle.je_instr.specs.Resolves.{Resolves};
-ghost use Rattle.je_instr.specs.Sample.{call_event, value_answer, throw_answer, Shows};
-ghost use Rattle.je_instr.specs.Spelling.{instr_bytes, code_bytes, FitsInstr};
-ghost use Rattle.je_instr.specs.View.{View, IsViewPrefix, IsSteady, view_of, with_more};
+ghost use Rattle.je_instr.specs.Spelling.{code_bytes, FitsInstr};
 
 use je_base::one_reading;
-
-/// Beginning a view is a partial order.
-pub fn views_begin_views()
-    ensures reflexive { (v : View) → IsViewPrefix v v }
-    ensures transitive { (u v w : View) → IsViewPrefix u v → IsViewPrefix v w → IsViewPrefix u w }
-    ensures antisymmetric { (v w : View) → IsViewPrefix v w → IsViewPrefix w v → v ≡ w }
-{}
-
-/// A longer bound only extends what a run shows, and what has ended stays as it is.
-pub fn longer_bounds()
-    // The machine's step is one of those that the other two laws speak of.
-    ensures steady { (p : Program) (classes : Classes) → IsSteady (machine_step p classes) }
-    ensures extends { (step : Step) → IsSteady step → (s : State) (m n : ℕ) → m ≤ n
-        → IsViewPrefix (view_of (iterate_all step m s)) (view_of (iterate_all step n s)) }
-    ensures ended { (step : Step) → IsSteady step → (s : State) (m n : ℕ) → m ≤ n
-        → IsSome (iterate_all step m s).ending
-        → iterate_all step n s ≡ with_more (n - m) (iterate_all step m s) }
-{}
 
 /// Bytes are one program at most: one code, of one list of instructions, with one list of
 /// operations.
 pub fn one_program()
     ensures code { (info : List ℕ) (c d : Code) →
-        CodeBytes info c → CodeBytes info d → c.code ≡ d.code }
+        CodeBytes info c → CodeBytes info d → c ≡ d }
     ensures instrs { (is js : List Instr) →
         AllByRecursion FitsInstr is → AllByRecursion FitsInstr js
         → code_bytes is ≡ code_bytes js → is ≡ js }
     ensures operations { (consts : List Place) (is : List Instr) (a b : List Operation) →
         AllZip (Resolves consts) is a → AllZip (Resolves consts) is b → a ≡ b }
+    ensures program { (consts : List Place) (is_static : Bool) (text : List ℕ) (code : Code)
+        (p q : Program) →
+        CodeProgram consts is_static text code p → CodeProgram consts is_static text code q
+        → p ≡ q }
 {
     // The law of the layer below that the proof stands on.
     one_reading();
@@ -89,36 +78,45 @@ pub fn constants_mean()
 pub fn contents_stay()
     ensures content { (old new : List Place) → Keeps old new → (i : ℕ) (content : Content) →
         content_at old i ≡ Some content → content_at new i ≡ Some content }
+    ensures allowed { (old new : List Place) → Keeps old new → (i : Instr) →
+        IsAllowed old i → IsAllowed new i }
     ensures resolves { (old new : List Place) → Keeps old new → (i : Instr) (o : Operation) →
         Resolves old i o → Resolves new i o }
     ensures operations { (old new : List Place) → Keeps old new →
         (is : List Instr) (a : List Operation) →
         AllZip (Resolves old) is a → AllZip (Resolves new) is a }
+    ensures program { (old new : List Place) → Keeps old new →
+        (is_static : Bool) (text : List ℕ) (code : Code) (p : Program) →
+        CodeProgram old is_static text code p → CodeProgram new is_static text code p }
 {}
 
-/// What an instruction of a program is, by its opcode (JVMS 6.5).
+/// An instruction is an operation exactly where its operands are allowed, and then it is one.
+pub fn operations_exist()
+    ensures each { (consts : List Place) (i : Instr) → IsAllowed consts i
+        → (o : Operation) × Resolves consts i o }
+    ensures only { (consts : List Place) (i : Instr) (o : Operation) → Resolves consts i o
+        → IsAllowed consts i }
+    ensures one { (consts : List Place) (i : Instr) (a b : Operation) → Resolves consts i a
+        → Resolves consts i b → a ≡ b }
+    ensures all { (consts : List Place) (is : List Instr) → AllByRecursion (IsAllowed consts) is
+        → (a : List Operation) × AllZip (Resolves consts) is a }
+{}
+
+/// What the instructions are that are read so far (JVMS 6.5).
 pub fn opcodes_mean()
-    ensures nop { (consts : List Place) (i : Instr) (o : Operation) →
-        instr_bytes i ≡ 0 ∷ [] → Resolves consts i o → o ≡ Nop }
-    ensures leaves { (consts : List Place) (i : Instr) (o : Operation) →
-        instr_bytes i ≡ 177 ∷ [] → Resolves consts i o → o ≡ Return }
-    ensures calls { (consts : List Place) (i : Instr) (o : Operation) (operands : List ℕ) →
-        instr_bytes i ≡ 184 ∷ operands → Resolves consts i o
-        → (method : Content) × (o ≡ InvokeStatic method) }
-{}
-
-/// What a method shows that calls a method, does nothing, calls another and returns.
-pub fn two_calls_are_shown()
-    // The first call is seen with the first heap, the second with the one that the first left.
-    ensures returned { (first second : Content) (heap middle last : Heap) (u v : Value) →
-        Shows first second heap (value_answer u middle ∷ value_answer v last ∷ [])
-        (call_event first heap ∷ call_event second middle ∷ []) (Some (Returned None, last)) }
-    // A throw ends it, and nothing more is called.
-    ensures thrown { (first second : Content) (heap middle last : Heap) (u : Value) (number : ℕ) →
-        Shows first second heap (throw_answer number middle ∷ value_answer u last ∷ [])
-        (call_event first heap ∷ []) (Some (Thrown (Obj number), middle)) }
-    // Without an answer the call is seen, and the run goes no further.
-    ensures waits { (first second : Content) (heap middle : Heap) (u : Value) →
-        Shows first second heap (value_answer u middle ∷ [])
-        (call_event first heap ∷ call_event second middle ∷ []) None }
+    ensures nop { (consts : List Place) (o : Operation) →
+        Resolves consts (instr.Simple op.NOP) o ↔ (o ≡ Do Nop) }
+    ensures leaves { (consts : List Place) (o : Operation) →
+        Resolves consts (instr.Simple op.RETURN) o ↔ (o ≡ Return None) }
+    ensures calls { (consts : List Place) (index : ℕ) (o : Operation) →
+        Resolves consts (instr.Invoke op.INVOKESTATIC index) o
+        → (method : Content) × (types : MethodTypes) × (content_at consts index ≡ Some method)
+        × (o ≡ Do (Act (Invoke Static method types))) }
+    // A method without parameters and result is called without operands.
+    ensures callee { (consts : List Place) (index : ℕ) (class name text : List ℕ) (o : Operation) →
+        content_at consts index ≡ Some (Member Method class name text)
+        → IsCallable class name text
+        → Resolves consts (instr.Invoke op.INVOKESTATIC index) o
+        ↔ (o ≡ Do (Act (Invoke Static (Member Method class name text)
+        (record { params = []; result = None })))) }
 {}

@@ -1,8 +1,8 @@
 //! Instructions, and what they mean.
 //!
-//! Stands on je_consts and je_desc. Decodes and encodes the code of a method, and defines the
-//! machine that runs it. Offers above: bytes and instructions agree, and a run with a longer bound
-//! shows what a shorter one shows.
+//! Stands on je_consts, je_desc and je_machine. Decodes and encodes the code of a method, and says
+//! which operation of the machine each instruction is. Offers above: bytes and instructions agree,
+//! and each instruction with operands that are allowed is one operation.
 #![tactic(auto)]
 
 mod callee;
@@ -11,15 +11,19 @@ mod decoding;
 mod encoding;
 mod instr;
 mod laws;
+pub mod opcodes;
+mod operands;
+mod programs;
 mod stop;
+mod table;
 
 pub use callee::called_method;
 pub use code::{MethodCode, read_code, write_code};
 pub use decoding::decode;
 pub use encoding::encode;
-pub use instr::Instr;
-pub use laws::{
-    constants_mean, contents_stay, longer_bounds, one_program, opcodes_mean, two_calls_are_shown,
-    views_begin_views,
-};
+pub use instr::{Case, Instr, InstrIndex, Opcode, Slot};
+pub use laws::{constants_mean, contents_stay, one_program, opcodes_mean, operations_exist};
+pub use operands::{loads_mean, members_mean};
+pub use programs::{programs_mean, two_calls_are_shown};
 pub use stop::CodeStop;
+pub use table::{operand_opcodes, simple_opcodes};

@@ -12,10 +12,10 @@ use Rattle.je_session.specs.declared.plan.Fragment.TheVariants.{Empty, Proceed}
 use Rattle.je_session.specs.declared.plan.Rule.{Rule}
 use Rattle.je_session.specs.declared.plan.MethodPlan.{MethodPlan}
 use Rattle.je_session.specs.declared.plan.Script.{Script}
-use Rattle.je_session.specs.declared.tokens.ScriptStop.{ScriptStop}
-use Rattle.je_session.specs.declared.tokens.ScriptStop.TheVariants as stop
-use Rattle.je_session.specs.declared.token.Token.{Token}
-use Rattle.je_session.specs.declared.token.Token.TheVariants.{Word, Mark}
+use Rattle.je_session.specs.declared.script.tokens.ScriptStop.{ScriptStop}
+use Rattle.je_session.specs.declared.script.tokens.ScriptStop.TheVariants as stop
+use Rattle.je_session.specs.declared.script.token.Token.{Token}
+use Rattle.je_session.specs.declared.script.token.Token.TheVariants.{Word, Mark}
 use Rattle.je_session.specs.Script.{IsIdent, fragment_tokens, rule_tokens, script_tokens, IsRule, ScriptForm}
 use Rattle.je_session.specs.Tokens.{AreTokens}
 use Rattle.je_session.proofs.TokenLemmas.{one_tokens}

@@ -3,8 +3,8 @@ use Rattle.std.proofs.Common.{◌≡◌, ℕ, zero, suc, ◌<◌, ◌≤◌, Lis
 use Rattle.std.specs.List.{AllByRecursion}
 use Rattle.std.proofs.lemmas.List.{append-nil}
 use Rattle.je_base.specs.Text.{IsModifiedUtf8}
-use Rattle.je_session.specs.declared.token.Token.{Token}
-use Rattle.je_session.specs.declared.token.Token.TheVariants.{Word, Mark}
+use Rattle.je_session.specs.declared.script.token.Token.{Token}
+use Rattle.je_session.specs.declared.script.token.Token.TheVariants.{Word, Mark}
 use Rattle.je_session.specs.Tokens.{IsWhite, IsMark, IsWordByte, IsWord, EndsWord, AreTokens}
 use Rattle.je_session.specs.Reading.{Ends, SkipsWhite, Leads}
 

@@ -1,5 +1,6 @@
 -- Why a run stopped before its output, the status that tells it, and the line.
-use Rattle.std.specs.Prelude.{◌≡◌, ◌≢◌, ℕ, List, [], ◌∷◌, ◌++◌, codes, Option, Some, None, IfSome, string_bytes, ◌⊎◌}
+use Rattle.std.specs.Prelude.{◌≡◌, ◌≢◌, ℕ, List, [], ◌∷◌, ◌++◌, codes, Option, Some, None, IfSome}
+use Rattle.std.specs.Prelude.{string_bytes, ◌⊎◌}
 use Rattle.std.specs.FinMap.{get}
 use Rattle.je_base.specs.Files.{Contents}
 use Rattle.je_base.specs.Shown.{shown}
@@ -8,13 +9,15 @@ use Rattle.je_class.specs.declared.fault.ClassFault.{ClassFault}
 use Rattle.je_class.specs.Class.{Class}
 use Rattle.je_class.specs.Faults.{FirstFault}
 use Rattle.je_class.specs.Words.{fault_words}
+use Rattle.je_session.specs.declared.plan.MethodPlan.{MethodPlan}
 use Rattle.je_session.specs.declared.plan.Script.{Script}
-use Rattle.je_session.specs.declared.report.Line.{Line}
-use Rattle.je_session.specs.declared.report.Line.TheVariants.{Fixed, Made}
-use Rattle.je_session.specs.declared.report.Stop.{Stop}
+use Rattle.je_session.specs.declared.session.report.Line.{Line}
+use Rattle.je_session.specs.declared.session.report.Line.TheVariants.{Fixed, Made}
+use Rattle.je_session.specs.declared.session.report.Stop.{Stop}
 use Rattle.je_session.specs.declared.status.Status.{Status}
 use Rattle.je_session.specs.declared.status.Status.TheVariants as status
-use Rattle.je_session.specs.Forms.{IsLine, IsScript, IsClassFile, ReadsScript, ReadsClass, class_path}
+use Rattle.je_session.specs.Forms.{IsLine, IsScript, IsClassFile, ReadsScript, ReadsClass}
+use Rattle.je_session.specs.Forms.{class_path}
 use Rattle.je_session.specs.Kept.{MethodForm}
 
 -- ---- causes
@@ -162,6 +165,12 @@ abbrev pub StoppedAtBytes : Script → List ℕ → Stop → Type 0
 StoppedAtBytes script bytes stop =
     TellsCause NoMemory stop
     ⊎ ((refusal : Refusal) × IsClassRefusal script bytes refusal × Tells (Refuses refusal) stop)
+
+-- a stop at the method of a plan: for want of memory, or since the method has not the form
+abbrev pub StoppedAtMethod : Class → MethodPlan → Stop → Type 0
+StoppedAtMethod source plan stop =
+    TellsCause NoMemory stop
+    ⊎ ((MethodForm source plan.name → ⊥) × TellsCause (Refuses NotYetClass) stop)
 
 -- what the cause of a stop at the class of a script says
 abbrev pub ExplainsAtClass : Script → Option Contents → Type 0 → Cause → Type 0

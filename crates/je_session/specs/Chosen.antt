@@ -1,16 +1,18 @@
 -- Which expressions of a method a plan's rules choose.
-use Rattle.std.specs.Prelude.{ℕ, List, Option, option_and_then, slice_get, Bool, false, ◌&&◌, count_by, is_some}
+use Rattle.std.specs.Prelude.{ℕ, List, Option, option_and_then, slice_get, Bool, false, ◌&&◌}
+use Rattle.std.specs.Prelude.{count_by, is_some}
 use Rattle.std.specs.Option.{option_map}
 use Rattle.std.specs.List.{find}
 use Rattle.je_base.specs.Text.{is_same_text}
-use Rattle.je_instr.specs.Content.{Member}
-use Rattle.je_instr.specs.Operation.{Operation, InvokeStatic, Program}
+use Rattle.je_machine.specs.Content.{Member}
+use Rattle.je_machine.specs.Action.{Invoke}
+use Rattle.je_machine.specs.Operation.{Act, Operation, Do, Program}
 use Rattle.je_session.specs.declared.plan.Fragment.{Fragment}
 use Rattle.je_session.specs.declared.plan.Rule.{Rule}
 
--- a rule for calls fits a call of its method in its class
+-- a rule for calls fits a call, of any sort, of its method in its class
 abbrev pub fits : Operation → Rule → Bool
-fits (InvokeStatic (Member tag class name descriptor)) rule =
+fits (Do (Act (Invoke sort (Member tag class name descriptor) types))) rule =
     is_same_text rule.class_name class && is_same_text rule.member name
 fits _ rule = false
 

@@ -2,7 +2,7 @@
 use Rattle.std.specs.Prelude.{◌≡◌, ℕ, Some, slice_get}
 use Rattle.je_class.specs.declared.member.Member.{Member}
 use Rattle.je_class.specs.Class.{Class}
-use Rattle.je_instr.specs.Operation.{Program}
+use Rattle.je_machine.specs.Operation.{Program}
 use Rattle.je_session.specs.declared.plan.MethodPlan.{MethodPlan}
 use Rattle.je_session.specs.Kept.{IsPlanOf}
 use Rattle.je_session.specs.ProgramOf.{ProgramOf}

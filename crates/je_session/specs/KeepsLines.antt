@@ -2,22 +2,18 @@
 -- (JVMS 4.7.12 to 4.7.14).
 use Rattle.std.specs.Prelude.{◌≡◌, ℕ, ◌+◌, ◌<◌, ◌≤◌, List, Some, None, slice_get, length}
 use Rattle.je_class.specs.Class.{Class}
-use Rattle.je_instr.specs.Operation.{Operation, Nop, Return, InvokeStatic, Program}
+use Rattle.je_machine.specs.Operation.{Operation, Program}
+use Rattle.je_machine.specs.Moved.{retargeted}
 use Rattle.je_session.specs.declared.plan.MethodPlan.{MethodPlan}
 use Rattle.je_session.specs.declared.plan.Rule.{Rule}
 use Rattle.je_session.specs.Chosen.{chosen_at}
 use Rattle.je_session.specs.EditedMethod.{EditedMethod}
 use Rattle.je_session.specs.Tables.{Tables, ReadsTables, WritesTables, moved}
 
--- the operation with each index that it jumps to under a map; none jumps so far
-abbrev pub with_targets : (ℕ → ℕ) → Operation → Operation
-with_targets to Nop = Nop
-with_targets to Return = Return
-with_targets to (InvokeStatic method) = InvokeStatic method
-
--- An operation stands at its new index, and is all that stands for the old one.
+-- An operation stands at its new index, with its targets where they went, and is all that stands
+-- for the old one.
 pub record Stays (new : Program) (to upto : ℕ → ℕ) (i : ℕ) (operation : Operation) : Type 0 where
-  pub here : slice_get new.operations (to i) ≡ Some (with_targets to operation)
+  pub here : slice_get new.operations (to i) ≡ Some (retargeted to operation)
   pub alone : upto i ≡ to i + 1
 
 -- The map from the indexes of the old program, and of its end, to those of the new one. What stands
@@ -49,7 +45,7 @@ pub record KeepsLines (before after : Class) (plan : MethodPlan)
   pub is_map : IsIndexMap method.old_program plan.rules method.new_program to upto
   pub all_pieces : IsAllPieces method.old_program method.new_program to upto
   pub old_tables : Tables
-  pub of_before : ReadsTables before.consts method.of_old.code.attributes method.of_old.instrs
-      old_tables
-  pub of_after : WritesTables after.consts method.of_new.code.attributes method.of_new.instrs
-      (moved to (length method.new_program.operations) old_tables)
+  pub of_before : ReadsTables before.consts method.of_old.code.attributes
+      method.of_old.of_code.instrs old_tables
+  pub of_after : WritesTables after.consts method.of_new.code.attributes
+      method.of_new.of_code.instrs (moved to (length method.new_program.operations) old_tables)

@@ -1,5 +1,6 @@
 -- What an edit of a class leaves as it was.
-use Rattle.std.specs.Prelude.{◌≡◌, ◌≢◌, ℕ, ◌<◌, ◌⊎◌, List, [], ◌∷◌, ◌++◌, length, codes, Some, slice_get}
+use Rattle.std.specs.Prelude.{◌≡◌, ◌≢◌, ℕ, ◌<◌, ◌⊎◌, List, [], ◌∷◌, ◌++◌, length, codes, Some, None}
+use Rattle.std.specs.Prelude.{slice_get, IsBitSet}
 use Rattle.std.specs.List.{AllByRecursion, AllZip}
 use Rattle.je_consts.specs.declared.constant.Const.{Const}
 use Rattle.je_consts.specs.declared.constant.Const.TheVariants as const
@@ -8,9 +9,10 @@ use Rattle.je_consts.specs.Pool.{const_at}
 use Rattle.je_class.specs.declared.member.Attribute.{Attribute}
 use Rattle.je_class.specs.declared.member.Member.{Member}
 use Rattle.je_class.specs.Class.{Class, IsMethodAt}
+use Rattle.je_machine.specs.Operation.{Operation, Return, Program}
 use Rattle.je_instr.specs.declared.instr.Instr.{Instr}
 use Rattle.je_instr.specs.declared.instr.Instr.TheVariants as instr
-use Rattle.je_instr.specs.Operation.{Operation, Return, Program}
+use Rattle.je_instr.specs.Callee.{CallsSoFar}
 use Rattle.je_instr.specs.Code.{RawHandler, AttributeInfo, Code, CodeBytes}
 use Rattle.je_session.specs.declared.plan.MethodPlan.{MethodPlan}
 use Rattle.je_session.specs.Chosen.{matched}
@@ -28,7 +30,17 @@ IsPlanned c plans at =
 
 -- the instruction names the constant of this index
 abbrev pub NamesConst : ℕ → Instr → Type 0
-NamesConst k (instr.InvokeStatic index) = index ≡ k
+NamesConst k (instr.Ldc index) = index ≡ k
+NamesConst k (instr.Ldc2 index) = index ≡ k
+NamesConst k (instr.Field opcode index) = index ≡ k
+NamesConst k (instr.Invoke opcode index) = index ≡ k
+NamesConst k (instr.InvokeInterface index count) = index ≡ k
+NamesConst k (instr.InvokeDynamic index) = index ≡ k
+NamesConst k (instr.New index) = index ≡ k
+NamesConst k (instr.ANewArray index) = index ≡ k
+NamesConst k (instr.CheckCast index) = index ≡ k
+NamesConst k (instr.InstanceOf index) = index ≡ k
+NamesConst k (instr.MultiNew index count) = index ≡ k
 NamesConst k _ = ⊥
 
 -- the constant names that of this index
@@ -74,7 +86,7 @@ pub record KeepsConsts (old : Class) (plans : List MethodPlan) (new : Class) : T
       → (at : ℕ) × IsPlanned old plans at
       × (m : Member) × (slice_get new.methods at ≡ Some m)
       × (program : Program) × (p : ProgramOf new m program)
-      × IsNeeded new.consts (length old.consts) p.code p.instrs k
+      × IsNeeded new.consts (length old.consts) p.code p.of_code.instrs k
   pub new_entry : (k j : ℕ) (c : Const) → length old.consts < k
       → const_at new.consts k ≡ Some c → const_at new.consts j ≡ Some c → j ≡ k
 
@@ -129,16 +141,20 @@ pub record Kept (old : Class) (plans : List MethodPlan) (new : Class) : Type 0 w
 -- ---- the methods that can be edited so far
 
 -- A method of this name that is static, has one attribute, a Code without handlers and attributes,
--- and whose instructions are any number that do nothing or call, and then one that returns.
+-- and whose instructions are any number that do nothing or call a static method without parameters
+-- and result, and then one that returns.
 pub record MethodForm (c : Class) (name : List ℕ) : Type 0 where
   pub at : ℕ
   pub is_method : IsMethodAt c name (codes "()V") at
   pub method : Member
   pub here : slice_get c.methods at ≡ Some method
+  pub static : IsBitSet method.access 3
   pub one_attribute : length method.attributes ≡ 1
   pub program : Program
   pub of : ProgramOf c method program
+  pub no_handlers : of.code.handlers ≡ []
   pub no_attributes : of.code.attributes ≡ []
+  pub calls : AllByRecursion (CallsSoFar c.consts) of.of_code.instrs
   pub front : List Operation
-  pub operations : program.operations ≡ front ++ Return ∷ []
-  pub no_return : AllByRecursion (λ operation. operation ≢ Return) front
+  pub operations : program.operations ≡ front ++ Return None ∷ []
+  pub no_return : AllByRecursion (λ operation. operation ≢ Return None) front

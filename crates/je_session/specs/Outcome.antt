@@ -11,7 +11,8 @@ use Rattle.je_session.specs.Cause.{Cause, Explains, status_of, line_of}
 use Rattle.je_session.specs.ClassEdit.{ClassEdit, IsEditOf}
 use Rattle.je_session.specs.Forms.{IsLine, ReadsScript, out_path}
 use Rattle.je_session.specs.Moment.{Moment, FilesFault, OutFault, ErrFault}
-use Rattle.je_session.specs.Output.{Step, Put, Write, Held, Taken, held_of, told_to, put, PutFails, Goes}
+use Rattle.je_session.specs.Output.{Step, Put, Write, Held, Taken, held_of, told_to, put, PutFails}
+use Rattle.je_session.specs.Output.{Goes}
 use Rattle.je_session.specs.ReportText.{failed_line, output_of}
 
 pub data Outcome : Type 0 where

@@ -1,10 +1,12 @@
 -- Serves private functions: what a run has made when it comes to its output.
-use Rattle.std.specs.Prelude.{◌≡◌, ℕ, ◌<◌, All, List, [], ◌∷◌, Option, string_bytes}
+use Rattle.std.specs.Prelude.{◌≡◌, ℕ, ◌<◌, All, List, [], ◌∷◌, Option, Some, string_bytes}
 use Rattle.je_base.specs.Files.{Contents}
-use Rattle.je_session.specs.declared.made.Made.{Made}
+use Rattle.je_consts.specs.Pool.{class_at}
+use Rattle.je_class.specs.Class.{Class}
+use Rattle.je_session.specs.declared.session.made.Made.{Made}
 use Rattle.je_session.specs.declared.plan.Script.{Script}
 use Rattle.je_session.specs.ClassEdit.{ClassEdit}
-use Rattle.je_session.specs.Forms.{out_path}
+use Rattle.je_session.specs.Forms.{IsClassFile, out_path}
 use Rattle.je_session.specs.Outcome.{AreEdits}
 use Rattle.je_session.specs.Output.{Step, Put, Write}
 use Rattle.je_session.specs.ReportText as report
@@ -12,6 +14,12 @@ use Rattle.je_session.specs.ReportText as report
 -- names that are written as they are
 abbrev pub HasAsciiNames : Script → Type 0
 HasAsciiNames script = All (λ b. b < 128) script.class_name × All (λ b. b < 128) script.plan.name
+
+-- the bytes are a class file of version 49, of the script's class
+pub record IsSource (script : Script) (bytes : List ℕ) (source : Class) : Type 0 where
+  pub file : IsClassFile bytes source
+  pub version : source.major ≡ 49
+  pub name : class_at source.consts source.this_class ≡ Some script.class_name
 
 -- what is put and written, in order
 abbrev pub output : Made → List Step

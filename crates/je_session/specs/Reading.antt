@@ -1,18 +1,21 @@
--- Serves private functions: how the tokens of a text and the script of its tokens are read, from the front.
-use Rattle.std.specs.Prelude.{◌≡◌, ℕ, List, [], ◌∷◌, ◌++◌, codes, Bool, false, ◌&&◌, ◌||◌, not, nat_le, ◌==◌, if◌then◌else◌, Option, Some, None, Result, Ok, Err}
+-- Serves private functions: how the tokens of a text, and the script of its tokens, are read from
+-- the front.
+use Rattle.std.specs.Prelude.{◌≡◌, ℕ, List, [], ◌∷◌, ◌++◌, codes, Bool, false, ◌&&◌, ◌||◌, not}
+use Rattle.std.specs.Prelude.{nat_le, ◌==◌, if◌then◌else◌, Option, Some, None, Result, Ok, Err}
 use Rattle.std.specs.List.{AllByRecursion, list_any}
 use Rattle.je_base.specs.Text.{is_same_text}
+use Rattle.je_base.specs.Ascii.{left_parenthesis, right_parenthesis, semicolon, dot}
 use Rattle.je_session.specs.declared.plan.Fragment.{Fragment}
 use Rattle.je_session.specs.declared.plan.Fragment.TheVariants.{Empty, Proceed}
 use Rattle.je_session.specs.declared.plan.Rule.{Rule}
 use Rattle.je_session.specs.declared.plan.MethodPlan.{MethodPlan}
 use Rattle.je_session.specs.declared.plan.Script.{Script}
-use Rattle.je_session.specs.declared.token.Token.{Token}
-use Rattle.je_session.specs.declared.token.Token.TheVariants.{Word, Mark}
-use Rattle.je_session.specs.declared.tokens.ScriptStop.{ScriptStop}
-use Rattle.je_session.specs.declared.tokens.ScriptStop.TheVariants as stop
+use Rattle.je_session.specs.declared.script.token.Token.{Token}
+use Rattle.je_session.specs.declared.script.token.Token.TheVariants.{Word, Mark}
+use Rattle.je_session.specs.declared.script.tokens.ScriptStop.{ScriptStop}
+use Rattle.je_session.specs.declared.script.tokens.ScriptStop.TheVariants as stop
 use Rattle.je_session.specs.Script.{reserved_words}
-use Rattle.je_session.specs.Tokens.{IsWhite, AreTokens}
+use Rattle.je_session.specs.Tokens.{left_brace, right_brace, underscore, IsWhite, AreTokens}
 
 -- ---- texts
 
@@ -31,7 +34,8 @@ pub record SkipsWhite (text rest : List ℕ) : Type 0 where
 -- The tokens of the text are these, and then those of the rest.
 pub record Leads (text : List ℕ) (front : List Token) (rest : List ℕ) : Type 0 where
   pub joins : (more : List Token) → AreTokens rest more → AreTokens text (front ++ more)
-  pub splits : (ts : List Token) → AreTokens text ts → (more : List Token) × (ts ≡ front ++ more) × AreTokens rest more
+  pub splits : (ts : List Token) → AreTokens text ts
+      → (more : List Token) × (ts ≡ front ++ more) × AreTokens rest more
 
 -- ---- tokens
 
@@ -53,7 +57,8 @@ is_reserved word = list_any (λ reserved. is_same_text reserved word) reserved_w
 
 abbrev pub begins_name : List ℕ → Bool
 begins_name [] = false
-begins_name (b ∷ bytes) = (nat_le 65 b && nat_le b 90) || ((nat_le 97 b && nat_le b 122) || b == 95)
+begins_name (b ∷ bytes) =
+    (nat_le 65 b && nat_le b 90) || ((nat_le 97 b && nat_le b 122) || b == underscore)
 
 abbrev pub is_ident : List ℕ → Bool
 is_ident word = begins_name word && not (is_reserved word)
@@ -77,17 +82,17 @@ ident_at [] = None
 
 unfoldable pub empty_at : List Token → Option (Fragment × List Token)
 empty_at tokens = do
-  ended ← after_mark 125 tokens
+  ended ← after_mark right_brace tokens
   Some (Empty, ended)
 
 unfoldable pub proceed_at : List Token → Option (Fragment × List Token)
 proceed_at tokens = do
   proceed ← after_word (codes "$proceed") tokens
-  opened ← after_mark 40 proceed
+  opened ← after_mark left_parenthesis proceed
   arguments ← after_word (codes "$$") opened
-  closed ← after_mark 41 arguments
-  stated ← after_mark 59 closed
-  ended ← after_mark 125 stated
+  closed ← after_mark right_parenthesis arguments
+  stated ← after_mark semicolon closed
+  ended ← after_mark right_brace stated
   Some (Proceed, ended)
 
 -- a statement begins with a word
@@ -98,15 +103,15 @@ body_at [] = empty_at []
 
 unfoldable pub fragment_at : List Token → Option (Fragment × List Token)
 fragment_at tokens = do
-  begun ← after_mark 123 tokens
+  begun ← after_mark left_brace tokens
   body_at begun
 
 unfoldable pub rule_at : List Token → Option (Rule × List Token)
 rule_at tokens = do
   begun ← after_word (codes "call") tokens
   class_name ← ident_at begun
-  dot ← after_mark 46 class_name.1
-  member ← ident_at dot
+  dotted ← after_mark dot class_name.1
+  member ← ident_at dotted
   fragment ← fragment_at member.1
   Some (record { class_name = class_name.0; member = member.0; fragment = fragment.0 }, fragment.1)
 
@@ -115,11 +120,11 @@ plan_at tokens = do
   method ← after_word (codes "method") tokens
   void ← after_word (codes "void") method
   name ← ident_at void
-  opened ← after_mark 40 name.1
-  closed ← after_mark 41 opened
-  begun ← after_mark 123 closed
+  opened ← after_mark left_parenthesis name.1
+  closed ← after_mark right_parenthesis opened
+  begun ← after_mark left_brace closed
   rule ← rule_at begun
-  ended ← after_mark 125 rule.1
+  ended ← after_mark right_brace rule.1
   Some (record { name = name.0; rules = rule.0 ∷ [] }, ended)
 
 -- no tokens are left
@@ -132,8 +137,8 @@ unfoldable pub script_at : List Token → Option Script
 script_at tokens = do
   class ← after_word (codes "class") tokens
   class_name ← ident_at class
-  begun ← after_mark 123 class_name.1
+  begun ← after_mark left_brace class_name.1
   plan ← plan_at begun
-  closed ← after_mark 125 plan.1
+  closed ← after_mark right_brace plan.1
   ended ← end_at closed
   Some (record { class_name = class_name.0; plan = plan.0 })

@@ -1,41 +1,69 @@
 -- The reference run: the original method, in which each chosen expression does its fragment.
-use Rattle.std.specs.Prelude.{ℕ, zero, suc, ◌+◌, List, [], Option, Some, slice_get}
-use Rattle.je_instr.specs.Value.{Value}
-use Rattle.je_instr.specs.Heap.{Heap, Classes}
-use Rattle.je_instr.specs.Operation.{Operation, Program}
-use Rattle.je_instr.specs.Outside.{Answer}
-use Rattle.je_instr.specs.Machine.{State, Progress, Goes, goes_on, Step, Outcome, dispatch, perform_at, iterate_all, start_of}
+use Rattle.std.specs.Prelude.{ℕ, zero, suc, List, length, Option, Some, None, option_map, slice_get}
+use Rattle.je_machine.specs.Value.{Value, zero_of}
+use Rattle.je_machine.specs.Heap.{Heap}
+use Rattle.je_machine.specs.Classes.{Classes}
+use Rattle.je_machine.specs.Action.{Action, operands_of, result_of}
+use Rattle.je_machine.specs.Operation.{Act, Operation, Do, Program}
+use Rattle.je_machine.specs.Outside.{Answer}
+use Rattle.je_machine.specs.Frame.{Falls, Halts, frame_of, popped, push, under}
+use Rattle.je_machine.specs.Frame as flow
+use Rattle.je_machine.specs.Step.{Outcome, Progress, Step, goes_on, iterate_all}
+use Rattle.je_machine.specs.Machine.{State, Outer, catcher, follow, perform_at, start_of}
 use Rattle.je_session.specs.declared.plan.Fragment.{Fragment}
 use Rattle.je_session.specs.declared.plan.Rule.{Rule}
 use Rattle.je_session.specs.Chosen.{chosen_at}
 use Rattle.je_session.specs.Means.{Meaning, Completes, Raises, Stays, means}
 
--- What follows a fragment: the next instruction, or a handler that covers the expression's index.
-abbrev pub after_fragment : Program → Classes → State → Meaning → Progress
-after_fragment program classes state (Completes left outside) =
-    Goes left (record {
-      place = state.place + 1;
-      stack = state.stack;
-      locals = state.locals;
-      outside = outside;
-    })
-after_fragment program classes state (Raises reference left outside) =
-    dispatch program classes state.place left reference state.locals outside
-after_fragment program classes state (Stays left outside) = goes_on left state.locals outside
+-- The result that an action's fragment leaves: what `$_` has, which begins as the zero of its kind.
+-- No fragment assigns it so far.
+abbrev pub left_result : Action → Option Value
+left_result action = option_map zero_of (result_of action)
 
--- One step at an index: the fragment where one is chosen, else the instruction. Calls take no
--- operands and have no result so far.
-abbrev pub step_at : Program → Classes → ℕ → State → Option Operation → Option Fragment → Progress
-step_at program classes left state (Some operation) (Some fragment) =
-    after_fragment program classes state
-    (means fragment (record { original = operation; operands = [] }) left state.outside)
-step_at program classes left state operation _ = perform_at program classes left operation state
+-- What follows a fragment, with the stack and the locals that it leaves: what follows an
+-- instruction that falls through, throws or waits.
+abbrev pub after_fragment : ℕ → Outer → List Value → List Value → Meaning → Progress State
+after_fragment next outer stack locals (Completes left outside) =
+    follow next outer left locals (Falls (frame_of stack locals) outside)
+after_fragment next outer stack locals (Raises reference left outside) =
+    follow next outer left locals (flow.Raises reference outside)
+after_fragment next outer stack locals (Stays left outside) =
+    follow next outer left locals (Halts outside)
 
-abbrev pub reference_step : Program → Classes → List Rule → Step
-reference_step program classes rules zero state = goes_on zero state.locals state.outside
-reference_step program classes rules (suc left) state =
-    step_at program classes left state (slice_get program.operations state.place)
-    (chosen_at program rules state.place)
+-- a fragment in the place of an action: it takes the action's operands, the deepest first, and
+-- pushes a result where the action does
+abbrev pub instead_of : Classes → ℕ → Outer → ℕ → Action → Fragment → State → Progress State
+instead_of classes next outer left action fragment s =
+    let count = length (operands_of action) in
+    after_fragment next outer (push (left_result action) (under count s.frame.stack)) s.frame.locals
+    (means fragment (record {
+      classes = classes;
+      original = action;
+      operands = popped count s.frame.stack;
+    }) left s.outside)
+
+-- one step: the fragment where an action is chosen, else the instruction
+abbrev pub step_at : Classes → ℕ → Outer → ℕ → Option Fragment → Option Operation → State
+    → Progress State
+step_at classes next outer left None operation s = perform_at classes next outer left operation s
+step_at classes next outer left (Some fragment) (Some (Do (Act action))) s =
+    instead_of classes next outer left action fragment s
+step_at classes next outer left (Some fragment) operation s =
+    perform_at classes next outer left operation s
+
+abbrev pub take_reference : Program → Classes → List Rule → ℕ → State → Progress State
+take_reference program classes rules zero s = goes_on zero s.frame.locals s.outside
+take_reference program classes rules (suc left) s =
+    step_at classes (suc s.place) (catcher program.handlers classes s.place) left
+    (chosen_at program rules s.place) (slice_get program.operations s.place) s
+
+abbrev pub reference_step : Program → Classes → List Rule → Step State
+reference_step program classes rules =
+    record {
+      take = take_reference program classes rules;
+      locals = λ s. s.frame.locals;
+      outside = λ s. s.outside;
+    }
 
 -- at most `bound` steps of the reference run, from the first instruction
 abbrev pub reference_run : Program → Classes → List Rule → List Value → Heap → List Answer → ℕ

@@ -1,13 +1,14 @@
 -- The scripts that are read so far.
 use Rattle.std.specs.Prelude.{◌≡◌, ℕ, ◌⊎◌, List, [], ◌∷◌, ◌++◌, codes, length, Contains}
 use Rattle.std.specs.List.{flat_map, AllByRecursion}
+use Rattle.je_base.specs.Ascii.{left_parenthesis, right_parenthesis, semicolon, dot}
 use Rattle.je_session.specs.declared.plan.Fragment.{Fragment}
 use Rattle.je_session.specs.declared.plan.Fragment.TheVariants.{Empty, Proceed}
 use Rattle.je_session.specs.declared.plan.Rule.{Rule}
 use Rattle.je_session.specs.declared.plan.Script.{Script}
-use Rattle.je_session.specs.declared.token.Token.{Token}
-use Rattle.je_session.specs.declared.token.Token.TheVariants.{Word, Mark}
-use Rattle.je_session.specs.Tokens.{IsLetter, AreTokens}
+use Rattle.je_session.specs.declared.script.token.Token.{Token}
+use Rattle.je_session.specs.declared.script.token.Token.TheVariants.{Word, Mark}
+use Rattle.je_session.specs.Tokens.{left_brace, right_brace, underscore, IsLetter, AreTokens}
 
 -- the reserved words of Java SE 8 (JLS 3.9), with `true`, `false` and `null`
 unfoldable pub reserved_words : List (List ℕ)
@@ -25,31 +26,31 @@ reserved_words =
 
 abbrev pub BeginsName : List ℕ → Type 0
 BeginsName [] = ⊥
-BeginsName (b ∷ bytes) = IsLetter b ⊎ (b ≡ 95)
+BeginsName (b ∷ bytes) = IsLetter b ⊎ (b ≡ underscore)
 
 -- a word that is a name: it begins with a letter or `_` and is not reserved
 abbrev pub IsIdent : List ℕ → Type 0
 IsIdent w = BeginsName w × (Contains reserved_words w → ⊥)
 
 abbrev pub fragment_tokens : Fragment → List Token
-fragment_tokens Empty = Mark 123 ∷ Mark 125 ∷ []
+fragment_tokens Empty = Mark left_brace ∷ Mark right_brace ∷ []
 fragment_tokens Proceed =
-    Mark 123 ∷ Word (codes "$proceed") ∷ Mark 40 ∷ Word (codes "$$") ∷ Mark 41 ∷ Mark 59 ∷ Mark 125
-    ∷ []
+    Mark left_brace ∷ Word (codes "$proceed") ∷ Mark left_parenthesis ∷ Word (codes "$$")
+    ∷ Mark right_parenthesis ∷ Mark semicolon ∷ Mark right_brace ∷ []
 
 -- `call CLASS.METHOD FRAGMENT`
 abbrev pub rule_tokens : Rule → List Token
 rule_tokens rule =
-    Word (codes "call") ∷ Word rule.class_name ∷ Mark 46 ∷ Word rule.member
+    Word (codes "call") ∷ Word rule.class_name ∷ Mark dot ∷ Word rule.member
     ∷ fragment_tokens rule.fragment
 
 -- `class CLASS { method void METHOD() { RULES } }`
 abbrev pub script_tokens : Script → List Token
 script_tokens script =
-    Word (codes "class") ∷ Word script.class_name ∷ Mark 123
-    ∷ Word (codes "method") ∷ Word (codes "void") ∷ Word script.plan.name ∷ Mark 40 ∷ Mark 41
-    ∷ Mark 123
-    ∷ (flat_map rule_tokens script.plan.rules ++ Mark 125 ∷ Mark 125 ∷ [])
+    Word (codes "class") ∷ Word script.class_name ∷ Mark left_brace
+    ∷ Word (codes "method") ∷ Word (codes "void") ∷ Word script.plan.name
+    ∷ Mark left_parenthesis ∷ Mark right_parenthesis ∷ Mark left_brace
+    ∷ (flat_map rule_tokens script.plan.rules ++ Mark right_brace ∷ Mark right_brace ∷ [])
 
 pub record IsRule (rule : Rule) : Type 0 where
   pub class_name : IsIdent rule.class_name

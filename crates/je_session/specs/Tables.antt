@@ -1,7 +1,8 @@
 -- The tables of a Code attribute that say which instructions belong to a line of the source and to
 -- a local variable (JVMS 4.7.12 to 4.7.14). Rows stand at byte offsets in a class file, and at
 -- indexes of instructions elsewhere.
-use Rattle.std.specs.Prelude.{◌≡◌, ℕ, ◌+◌, ◌-◌, ◌^◌, ◌<◌, ◌≤◌, ◌⊎◌, Bool, false, ◌&&◌, nat_eq, nat_lt, List, [], ◌∷◌, ◌++◌, length, take, map, filter, codes}
+use Rattle.std.specs.Prelude.{◌≡◌, ℕ, ◌+◌, ◌-◌, ◌^◌, ◌<◌, ◌≤◌, ◌⊎◌, Bool, false, ◌&&◌, nat_eq}
+use Rattle.std.specs.Prelude.{nat_lt, List, [], ◌∷◌, ◌++◌, length, map, filter, codes}
 use Rattle.std.specs.List.{list_any, position_or_len, range_with_len}
 use Rattle.std.specs.Option.{option_map_or}
 use Rattle.je_base.specs.Text.{is_same_text}
@@ -10,7 +11,7 @@ use Rattle.je_base.specs.Bytes.{u2, table}
 use Rattle.je_consts.specs.Pool.{text_at}
 use Rattle.je_instr.specs.declared.instr.Instr.{Instr}
 use Rattle.je_instr.specs.Code.{AttributeInfo, FitsTable}
-use Rattle.je_instr.specs.Spelling.{code_bytes}
+use Rattle.je_instr.specs.CodeProgram.{offset_of}
 
 -- where the code of a line starts (JVMS 4.7.12)
 pub record LineRow : Type 0 where
@@ -84,10 +85,6 @@ HasRows layout Fits attributes (row ∷ rows) =
     × IsTable layout Fits attribute.bytes (row ∷ rows)
 
 -- ---- offsets and indexes
-
--- the byte offset of an instruction, or of the end
-abbrev pub offset_of : List Instr → ℕ → ℕ
-offset_of instrs i = length (code_bytes (take i instrs))
 
 -- the offsets of all instructions and of the end
 abbrev pub offsets : List Instr → List ℕ

@@ -1,11 +1,12 @@
 -- What an edited method is to do: the parts of its plan round the reference run of its body. The
 -- plan has rules alone so far, so the body is all of it.
 use Rattle.std.specs.Prelude.{ℕ, List}
-use Rattle.je_instr.specs.Value.{Value}
-use Rattle.je_instr.specs.Heap.{Heap, Classes}
-use Rattle.je_instr.specs.Operation.{Program}
-use Rattle.je_instr.specs.Outside.{Answer}
-use Rattle.je_instr.specs.Machine.{Outcome}
+use Rattle.je_machine.specs.Value.{Value}
+use Rattle.je_machine.specs.Heap.{Heap}
+use Rattle.je_machine.specs.Classes.{Classes}
+use Rattle.je_machine.specs.Operation.{Program}
+use Rattle.je_machine.specs.Outside.{Answer}
+use Rattle.je_machine.specs.Step.{Outcome}
 use Rattle.je_session.specs.declared.plan.MethodPlan.{MethodPlan}
 use Rattle.je_session.specs.RefRun.{reference_run}
 

@@ -6,7 +6,7 @@ ghost use Rattle.je_consts.specs.Adding.{Keeps};
 ghost use Rattle.je_class.specs.declared.member.Member.{Member};
 ghost use Rattle.je_class.specs.Class.{Class};
 ghost use Rattle.je_class.specs.FileParts.{IsSound};
-ghost use Rattle.je_instr.specs.Operation.{Program};
+ghost use Rattle.je_machine.specs.Operation.{Program};
 ghost use Rattle.je_session.specs.Cause.{Refusal, IsRefusal};
 ghost use Rattle.je_session.specs.ProgramOf.{ProgramOf};
 

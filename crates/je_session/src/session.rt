@@ -1,4 +1,4 @@
-//! The top call.
+//! The top call, and what it is made of: what a run reads, makes, puts and writes.
 
 ghost use Rattle.std.specs.Prelude.{◌≡◌, ℕ, ◌≤◌, List, Some, None, IsErrOf, OnOk, string_bytes};
 ghost use Rattle.je_base.specs.Count.{HasFault};
@@ -12,9 +12,18 @@ ghost use Rattle.je_session.specs.Output.{Put, Write, PutFails, Goes, held, take
 ghost use Rattle.je_session.specs.Outcome.{IsRun, IsDone};
 ghost use Rattle.je_session.specs.Prepared.{output};
 
-use crate::made::Made;
-use crate::prepare::prepare;
-use crate::report::Stop;
+mod class_edit;
+mod made;
+mod paths;
+mod prepare;
+mod reading;
+mod report;
+mod source;
+mod words;
+
+use crate::session::made::Made;
+use crate::session::prepare::prepare;
+use crate::session::report::Stop;
 use crate::status::Status;
 use je_base::{Files, Sink};
 use je_class::one_class;
@@ -93,17 +102,23 @@ enum Fault {
 
 // Puts and writes what was made, and takes no memory.
 fn finish<F: Files, O: Sink>(made: &Made, files: &mut F, out: &mut O) -> Result<(), Fault>
-    ensures done { let old = held (F.contents files.old) (F.writes files.old) (O.bytes out.old) (O.puts out.old) in
-        let new = held (F.contents files.new) (F.writes files.new) (O.bytes out.new) (O.puts out.new) in
+    ensures done { let old = held (F.contents files.old) (F.writes files.old)
+        (O.bytes out.old) (O.puts out.old) in
+        let new = held (F.contents files.new) (F.writes files.new)
+        (O.bytes out.new) (O.puts out.new) in
         OnOk result (Goes (output made.now) None old new) }
-    ensures writing { let old = held (F.contents files.old) (F.writes files.old) (O.bytes out.old) (O.puts out.old) in
-        let new = held (F.contents files.new) (F.writes files.new) (O.bytes out.new) (O.puts out.new) in
+    ensures writing { let old = held (F.contents files.old) (F.writes files.old)
+        (O.bytes out.old) (O.puts out.old) in
+        let new = held (F.contents files.new) (F.writes files.new)
+        (O.bytes out.new) (O.puts out.new) in
         let write = Write (string_bytes made.now.path) made.now.bytes.items in
         IsErrOf result Fault.Writing → Goes (output made.now) (Some write) old new }
     ensures writing_fault { IsErrOf result Fault.Writing
         → HasFault (F.faults files.old) (F.faults files.new) }
-    ensures output { let old = held (F.contents files.old) (F.writes files.old) (O.bytes out.old) (O.puts out.old) in
-        let new = held (F.contents files.new) (F.writes files.new) (O.bytes out.new) (O.puts out.new) in
+    ensures output { let old = held (F.contents files.old) (F.writes files.old)
+        (O.bytes out.old) (O.puts out.old) in
+        let new = held (F.contents files.new) (F.writes files.new)
+        (O.bytes out.new) (O.puts out.new) in
         IsErrOf result Fault.Output →
         (piece : List ℕ) × Goes (output made.now) (Some (Put piece)) old new }
     ensures output_fault { IsErrOf result Fault.Output

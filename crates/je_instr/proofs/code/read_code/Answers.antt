@@ -1,9 +1,8 @@
 use Rattle.std.proofs.Common.{ap, ◌∙◌}
 use Rattle.std.proofs.lemmas.Result.{err_from_is_err_and}
-use Rattle.je_instr.specs.Reading.{Head}
-use Rattle.je_instr.specs.Plain.{head_view}
-use Rattle.je_instr.proofs.Heads.{one_head}
-use Rattle.je_instr.proofs.Attributes.{plain_head, is_plain, same_code}
+use Rattle.je_instr.specs.Reading.{Head, head_view}
+use Rattle.je_instr.proofs.HeadLemmas.{one_head}
+use Rattle.je_instr.proofs.AttributeLemmas.{plain_head, is_plain, same_code}
 use Rattle.je_instr.proofs.code.read_code.Goals as goal
 
 pub returns-in_err-head-clause-only : goal.returns-in_err-head-clause-only

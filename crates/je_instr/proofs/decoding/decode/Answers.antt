@@ -1,7 +1,7 @@
 use Rattle.std.proofs.Common.{arith, rules, ◌≡◌, [], ◌++◌, sym, ap, ◌∙◌}
 use Rattle.std.proofs.lemmas.List.{append-nil, nil_from_length}
 use Rattle.je_instr.specs.Spelling.{code_bytes}
-use Rattle.je_instr.proofs.Spelled.{reads_on, stops, one_spelling}
+use Rattle.je_instr.proofs.SpellingLemmas.{reads_on, stops, one_spelling}
 use Rattle.je_instr.proofs.decoding.decode.Goals as goal
 
 pub returns-in_default-clause-only : goal.returns-in_default-clause-only

@@ -1,7 +1,8 @@
 use Rattle.std.proofs.Common.{sym}
-use Rattle.je_instr.proofs.Attributes.{one_code}
-use Rattle.je_instr.proofs.Programs.{all_resolve_once}
-use Rattle.je_instr.proofs.Spelled.{one_spelling}
+use Rattle.je_instr.proofs.AttributeLemmas.{one_code}
+use Rattle.je_instr.proofs.OperationLemmas.{all_resolve_once}
+use Rattle.je_instr.proofs.ProgramLemmas.{one_code_program}
+use Rattle.je_instr.proofs.SpellingLemmas.{one_spelling}
 use Rattle.je_instr.proofs.laws.one_program.Goals as goal
 
 pub returns-clause-code : goal.returns-clause-code
@@ -12,3 +13,6 @@ returns-clause-instrs c = λ is js fits fits' e. sym (one_spelling is js fits fi
 
 pub returns-clause-operations : goal.returns-clause-operations
 returns-clause-operations c = all_resolve_once
+
+pub returns-clause-program : goal.returns-clause-program
+returns-clause-program c = one_code_program

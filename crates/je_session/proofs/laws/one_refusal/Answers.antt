@@ -1,4 +1,4 @@
-use Rattle.je_session.proofs.OneRefusal.{one_refusal, RefusalLaws}
+use Rattle.je_session.proofs.RefusalLemmas.{one_refusal, RefusalLaws}
 use Rattle.je_session.proofs.laws.one_refusal.Goals as goal
 
 pub returns : goal.returns

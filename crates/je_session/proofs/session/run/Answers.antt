@@ -1,9 +1,9 @@
 use Rattle.std.proofs.Common.{Err, Some, None, refl, ap, ◌∙◌}
 use Rattle.je_session.specs.Output.{Put, Write}
 use Rattle.je_session.specs.Prepared.{output}
-use Rattle.je_session.proofs.Causes.{laws_of, complete_from, refuses_from, no_usage, loud}
-use Rattle.je_session.proofs.Outputs.{since_start, run_done, run_failed, run_stopped, done_of_run}
-use Rattle.je_session.proofs.Steps.{fault_since}
+use Rattle.je_session.proofs.CauseLemmas.{laws_of, complete_from, refuses_from, no_usage, loud}
+use Rattle.je_session.proofs.OutputLemmas.{since_start, run_done, run_failed, run_stopped, done_of_run}
+use Rattle.je_session.proofs.PreparedLemmas.{fault_since}
 use Rattle.je_session.proofs.session.run.Goals as goal
 
 -- ---- all is done

@@ -1,0 +1,6 @@
+use Rattle.std.proofs.Common.{ℕ, ◌<◌, get_or}
+use Rattle.je_session.specs.Tokens.{IsWordByte}
+use Rattle.je_session.proofs.script.tokens.word_len.Given as goal
+
+abbrev pub invariant-loop-i : goal.invariant-loop-i
+invariant-loop-i l = (k : ℕ) → k < l.i → IsWordByte (get_or l.text k 0)

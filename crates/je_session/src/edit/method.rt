@@ -1,0 +1,66 @@
+//! The edit of one method.
+
+ghost use Rattle.std.specs.Prelude.{◌≡◌, IfOk, IfErr, OnOk, OnErr};
+ghost use Rattle.je_session.specs.declared.edit.stop.EditStop.TheVariants as stops;
+ghost use Rattle.je_session.specs.ClassEdit.{IsPlanEdit, plan_edit};
+ghost use Rattle.je_session.specs.Kept.{MethodForm};
+
+use crate::edit::chosen::{choose, count_chosen};
+use crate::edit::editable::find_editable;
+use crate::edit::splice::splice;
+use crate::edit::stop::EditStop;
+use crate::plan::MethodPlan;
+use je_class::ClassFile;
+use je_instr::{MethodCode, one_program, opcodes_mean, write_code};
+use je_machine::{actions_do, machine_runs};
+use sqlite_items::Items;
+use std::alloc::Global;
+
+/// Edits the method of the plan, and tells how many expressions its rules chose.
+///
+/// # Errors
+///
+/// `NotYet`: the method is not there, or not of the form that can be edited. `Memory`: there was
+/// not enough memory. After an error the class is as it was.
+pub fn edit_method(
+    alloc: Global,
+    class: &mut ClassFile,
+    plan: &MethodPlan,
+) -> Result<usize, EditStop>
+    // All that the edit owes is said of the same method and the same number.
+    ensures edited { IfOk result (λ matched.
+        IsPlanEdit (plan_edit plan.now class.old class.new matched)) }
+    // It is refused exactly where the method has not the form.
+    ensures form { OnOk result (MethodForm class.old plan.now.name) }
+    ensures not_yet { IfErr result (λ e.
+        e ≡ stops.NotYet → MethodForm class.old plan.now.name → ⊥) }
+    ensures err { OnErr result (class.new ≡ class.old) }
+{
+    // The laws of the layers below that the proof stands on.
+    actions_do();
+    machine_runs();
+    opcodes_mean();
+    one_program();
+
+    let editable = find_editable(alloc, class, &plan.name)?;
+    let code = editable.code;
+    let chosen = choose(
+        alloc,
+        class.consts(),
+        code.instrs.as_slice(),
+        plan.rules.as_slice(),
+    )?;
+    let count = count_chosen(chosen.as_slice());
+    if count == 0 {
+        return Ok(0);
+    }
+    let instrs = splice(alloc, code.instrs.as_slice(), chosen.as_slice())?;
+    let code = MethodCode {
+        max_stack: code.max_stack,
+        max_locals: code.max_locals,
+        instrs: Items::from_vec(instrs),
+    };
+    let bytes = write_code(alloc, &code)?;
+    class.set_method_attribute(editable.at, 0, Items::from_vec(bytes));
+    Ok(count)
+}
