@@ -6,7 +6,7 @@ ghost use Rattle.je_class.specs.Class.{Class};
 ghost use Rattle.je_class.specs.ClassBytes.{ClassBytes};
 ghost use Rattle.je_class.specs.Faults.{FirstFault};
 
-use je_base::{FileStop, Files, Memory, Sink};
+use je_base::{FileStop, Files, Memory, Run, Sink};
 use je_class::{ClassFault, MOST_BYTES, read_class, write_class};
 use std::alloc::{AllocError, Global};
 
@@ -32,7 +32,7 @@ impl From<Memory> for Stop {
 }
 
 /// Whether what is written of what was read are the bytes.
-fn reread(alloc: Global, bytes: &[u8]) -> Result<bool, ClassFault>
+fn reread(alloc: Global, bytes: &Run) -> Result<bool, ClassFault>
     ensures same { IfOk result (λ same. IsTrue same) }
     ensures class { OnOk result ((c : Class) × ClassBytes bytes.now c) }
     ensures fault { IfErr result (λ e. (e ≡ faults.Memory) ⊎ FirstFault bytes.now e) }
@@ -42,7 +42,7 @@ fn reread(alloc: Global, bytes: &[u8]) -> Result<bool, ClassFault>
         Err(fault) => return Err(fault),
     };
     match write_class(alloc, &class) {
-        Ok(written) => Ok(written.as_slice() == bytes),
+        Ok(written) => Ok(written.as_slice() == bytes.as_slice()),
         Err(Memory) => Err(ClassFault::Memory),
     }
 }
@@ -51,7 +51,7 @@ fn reread(alloc: Global, bytes: &[u8]) -> Result<bool, ClassFault>
 /// read.
 fn fault_at<F: Files>(alloc: Global, path: &str, files: &mut F) -> Result<Option<String>, Memory> {
     let bytes = match files.read(path, MOST_BYTES + 1) {
-        Ok(Some(bytes)) => bytes,
+        Ok(Some(bytes)) => Run::of_vec(alloc, bytes)?,
         Ok(None) => return Ok(Some(format!(in alloc; "no file")?)),
         Err(FileStop::Failed) => return Ok(Some(format!(in alloc; "not read")?)),
         Err(FileStop::Memory) => return Err(Memory),

@@ -1,4 +1,4 @@
-use je_base::Text;
+use je_base::{Run, Text};
 use je_class::{ClassFile, read_class, write_class};
 use je_session::{EditStop, Fragment, MethodPlan, Rule, edit_method};
 use samples::CLASS_A;
@@ -6,7 +6,9 @@ use sqlite_items::Items;
 use std::test::*;
 
 fn class(rt: &HostRuntime) -> Result<ClassFile, Fail> {
-    let class = read_class(rt.alloc(), &CLASS_A)
+    let bytes = Vec::from_slice(rt.alloc(), &CLASS_A)?;
+    let run = Run::of_vec(rt.alloc(), bytes)?;
+    let class = read_class(rt.alloc(), &run)
         .ok()
         .ok_or("the bytes are a class")?;
     Ok(class)

@@ -1,3 +1,4 @@
+use je_base::Run;
 use je_consts::Consts;
 use je_instr::{
     Case, CodeStop, Instr, called_method, decode, encode, opcodes, read_code, write_code,
@@ -59,7 +60,9 @@ const CONSTRUCTED: &[u8] =
     b"\x00\x07\x01\x00\x01A\x01\x00\x06<init>\x01\x00\x03()V\x07\x00\x01\x0c\x00\x02\x00\x03\x0a\x00\x04\x00\x05";
 
 fn pool(rt: &HostRuntime, bytes: &[u8]) -> Result<Consts, Fail> {
-    match Consts::read(rt.alloc(), bytes, 0) {
+    let copy = Vec::from_slice(rt.alloc(), bytes)?;
+    let run = Run::of_vec(rt.alloc(), copy)?;
+    match Consts::read(rt.alloc(), &run, 0) {
         Ok((consts, _)) => Ok(consts),
         Err(_) => Err("no pool".into()),
     }

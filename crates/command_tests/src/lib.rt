@@ -5,6 +5,8 @@
 #![tactic(auto)]
 
 #[cfg(test)]
+mod decodes;
+#[cfg(test)]
 mod edits;
 #[cfg(test)]
 mod instr;

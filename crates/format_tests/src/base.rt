@@ -1,6 +1,6 @@
 use je_base::{
-    Cut, Failed, FileStop, Files, FsFiles, MemFiles, MemSink, Sink, StdSink, Text, decode_text,
-    encode_text, put_u16, put_u32, put_u64, run_at, u8_at, u16_at, u32_at, u64_at,
+    Cut, Failed, FileStop, Files, FsFiles, MemFiles, MemSink, Run, Sink, StdSink, Text,
+    decode_text, encode_text, put_u16, put_u32, put_u64, run_at, u8_at, u16_at, u32_at, u64_at,
 };
 use std::fs;
 use std::hash::{DefaultHasher, Hash, Hasher};
@@ -25,6 +25,28 @@ fn numbers_and_runs_of_a_format(rt: HostRuntime) -> Result<(), Fail> {
     assert_eq!(rt; u32_at(bytes, 12), Err(Cut(12)));
     assert_eq!(rt; u64_at(bytes, 8), Err(Cut(8)));
     assert_eq!(rt; run_at(bytes, 12, 4), Err(Cut(12)));
+    Ok(())
+}
+
+/// A part of a run of seven bytes, and a text of a part of it.
+fn parts_of_a_run(rt: &HostRuntime) -> Result<(Run, Text), Fail> {
+    let bytes = Vec::from_slice(rt.alloc(), b"\x00\x04Code\x00")?;
+    let run = Run::of_vec(rt.alloc(), bytes)?;
+    if run.len() != 7 {
+        return Err("seven bytes".into());
+    }
+    if Text::of_part(&run, 0, 2)?.is_some() {
+        return Err("no text".into());
+    }
+    let text = Text::of_part(&run, 2, 6)?.ok_or("a text")?;
+    Ok((run.part(1, 6)?, text))
+}
+
+#[test]
+fn parts_stay_without_their_run(rt: HostRuntime) -> Result<(), Fail> {
+    let (part, text) = parts_of_a_run(&rt)?;
+    assert_eq!(rt; part.copy()?.as_slice(), b"\x04Code".as_slice());
+    assert_eq!(rt; text.copy()?.bytes(), b"Code".as_slice());
     Ok(())
 }
 

@@ -1,11 +1,10 @@
 ghost use Rattle.std.specs.Prelude.{◌≡◌, IfOk};
 
-use je_base::Text;
+use je_base::{Run, Text};
 use je_class::{ClassFault, ClassFile, MethodIndex, read_class, write_class};
 use je_consts::Const;
 use je_desc::Summary;
 use samples::CLASS_A;
-use sqlite_items::Items;
 use std::test::*;
 
 /// One interface, one private field `f` of type int with an attribute of one byte.
@@ -15,13 +14,20 @@ const INTERFACE_AND_FIELD: &[u8] =
 /// One attribute of no bytes.
 const ATTRIBUTE: &[u8] = b"\x00\x01\x00\x07\x00\x00\x00\x00";
 
+fn run_of(rt: &HostRuntime, bytes: &[u8]) -> Result<Run, Fail> {
+    let copy = Vec::from_slice(rt.alloc(), bytes)?;
+    Ok(Run::of_vec(rt.alloc(), copy)?)
+}
+
 /// Why these bytes are not read, or `None` where they are.
-fn fault_of(rt: &HostRuntime, bytes: &[u8]) -> Option<ClassFault> {
-    read_class(rt.alloc(), bytes).err()
+fn fault_of(rt: &HostRuntime, bytes: &[u8]) -> Result<Option<ClassFault>, Fail> {
+    let run = run_of(rt, bytes)?;
+    Ok(read_class(rt.alloc(), &run).err())
 }
 
 fn class_of(rt: &HostRuntime, bytes: &[u8]) -> Result<ClassFile, Fail> {
-    let class = read_class(rt.alloc(), bytes)
+    let run = run_of(rt, bytes)?;
+    let class = read_class(rt.alloc(), &run)
         .ok()
         .ok_or("the bytes are a class")?;
     Ok(class)
@@ -83,12 +89,7 @@ fn with_code(rt: &HostRuntime) -> Result<Vec<u8>, Fail> {
     if method.attributes.is_empty() {
         return Err("an attribute".into());
     }
-    class.set_code(
-        0,
-        0,
-        Items::from_slice(rt.alloc(), b"\x07\x08\x09")?,
-        consts,
-    );
+    class.set_code(0, 0, run_of(rt, b"\x07\x08\x09")?, consts);
     Ok(write_class(rt.alloc(), &class)?)
 }
 
@@ -107,11 +108,11 @@ fn first_bytes_alone(rt: HostRuntime) -> Result<(), Fail> {
     ];
     for (count, fault) in table {
         let front = part(&CLASS_A, 0, count)?;
-        assert_eq!(rt; fault_of(&rt, front), Some(fault), "at {count}");
+        assert_eq!(rt; fault_of(&rt, front)?, Some(fault), "at {count}");
     }
     let mut more = Vec::from_slice(rt.alloc(), &CLASS_A)?;
     more.push(0)?;
-    assert_eq!(rt; fault_of(&rt, &more), Some(ClassFault::Trailing(114)));
+    assert_eq!(rt; fault_of(&rt, &more)?, Some(ClassFault::Trailing(114)));
     Ok(())
 }
 
@@ -119,9 +120,9 @@ fn first_bytes_alone(rt: HostRuntime) -> Result<(), Fail> {
 fn most_bytes(rt: HostRuntime) -> Result<(), Fail> {
     let mut bytes = Vec::from_slice(rt.alloc(), &CLASS_A)?;
     bytes.resize(16_777_216, 0)?;
-    assert_eq!(rt; fault_of(&rt, &bytes), Some(ClassFault::Trailing(114)));
+    assert_eq!(rt; fault_of(&rt, &bytes)?, Some(ClassFault::Trailing(114)));
     bytes.push(0)?;
-    assert_eq!(rt; fault_of(&rt, &bytes), Some(ClassFault::TooLong));
+    assert_eq!(rt; fault_of(&rt, &bytes)?, Some(ClassFault::TooLong));
     Ok(())
 }
 
@@ -148,7 +149,7 @@ fn one_byte_set(rt: HostRuntime) -> Result<(), Fail> {
     ];
     for (at, byte, fault) in table {
         let bytes = with_byte(at, byte);
-        assert_eq!(rt; fault_of(&rt, &bytes), fault, "{byte} at {at}");
+        assert_eq!(rt; fault_of(&rt, &bytes)?, fault, "{byte} at {at}");
     }
     Ok(())
 }

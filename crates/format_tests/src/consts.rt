@@ -1,6 +1,6 @@
 ghost use Rattle.std.specs.Prelude.{◌≡◌, IfOk};
 
-use je_base::Text;
+use je_base::{Run, Text};
 use je_consts::{Const, ConstFault, Consts, MemberTag, PoolStop};
 use samples::CLASS_A;
 use std::test::*;
@@ -15,8 +15,15 @@ const TAGS: [u8; 82] = [
     0x00, 0x00,
 ];
 
+fn run_of(rt: &HostRuntime, bytes: &[u8]) -> Result<Run, Fail>
+    ensures { IfOk result (λ run. run ≡ bytes.now) }
+{
+    let copy = Vec::from_slice(rt.alloc(), bytes)?;
+    Ok(Run::of_vec(rt.alloc(), copy)?)
+}
+
 fn class_pool(rt: &HostRuntime) -> Result<Consts, Fail> {
-    match Consts::read(rt.alloc(), &CLASS_A, 8) {
+    match Consts::read(rt.alloc(), &run_of(rt, &CLASS_A)?, 8) {
         Ok((consts, 70)) => Ok(consts),
         Ok(_) => Err("another end".into()),
         Err(_) => Err("no pool".into()),
@@ -47,7 +54,7 @@ fn read_copied_and_written(rt: HostRuntime) -> Result<(), Fail> {
 
 #[test]
 fn each_tag(rt: HostRuntime) -> Result<(), Fail> {
-    let consts = match Consts::read(rt.alloc(), &TAGS, 0) {
+    let consts = match Consts::read(rt.alloc(), &run_of(&rt, &TAGS)?, 0) {
         Ok((consts, 72)) => consts,
         _ => return Err("no pool".into()),
     };
@@ -95,8 +102,9 @@ fn faults(rt: HostRuntime) -> Result<(), Fail> {
         (b"\x00\x02\x12\x00\x00\x00\x05", 0, ConstFault::BadConst(1)),
     ];
     for (bytes, at, fault) in table {
-        if at <= bytes.len() {
-            let read = Consts::read(rt.alloc(), bytes, at);
+        let run = run_of(&rt, bytes)?;
+        if at <= run.len() {
+            let read = Consts::read(rt.alloc(), &run, at);
             assert!(rt;
                 matches!(&read, Err(found) if *found == fault),
                 "at {bytes:?}"
@@ -160,7 +168,7 @@ fn long_pool(rt: &HostRuntime, count: u16) -> Result<Consts, Fail> {
     for _ in 2..count {
         bytes.extend_from_slice(b"\x01\x00\x00")?;
     }
-    match Consts::read(rt.alloc(), &bytes, 0) {
+    match Consts::read(rt.alloc(), &Run::of_vec(rt.alloc(), bytes)?, 0) {
         Ok((consts, _)) => Ok(consts),
         Err(_) => Err("no pool".into()),
     }

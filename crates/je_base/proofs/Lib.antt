@@ -1,5 +1,6 @@
 pub mod BytesLemmas
 pub mod PartsLemmas
+pub mod RunLemmas
 pub mod TextLemmas
 pub mod EncodingLemmas
 pub mod ShownLemmas

@@ -2,7 +2,7 @@
 //!
 //! Numbers are big-endian. Offsets are in bytes, from the start.
 
-ghost use Rattle.std.specs.Prelude.{◌≡◌, ◌+◌, ◌++◌, drop, length, IfOk, IfErr, OnOk, OnErr};
+ghost use Rattle.std.specs.Prelude.{◌≡◌, ◌+◌, ◌++◌, ◌≤◌, drop, length, slice_range, IfOk, IfErr, OnOk, OnErr};
 ghost use Rattle.je_base.specs.Bytes.{u1, u2, u4, u8, IsThere, IsCut, OneReading};
 
 use crate::stop::Memory;
@@ -45,6 +45,7 @@ pub fn u8_at(bytes: &[u8], at: usize) -> Result<(u8, usize), Cut>
 pub fn u16_at(bytes: &[u8], at: usize) -> Result<(u16, usize), Cut>
     ensures there { IfOk result (λ x. IsThere bytes.now at (u2 x.0)) }
     ensures end { IfOk result (λ x. x.1 ≡ at + 2) }
+    ensures within { IfOk result (λ x. x.1 ≤ length bytes.now) }
     ensures cut { IfErr result (IsCut bytes.now at 2) }
 {
     let rest = from(bytes, at);
@@ -63,6 +64,7 @@ pub fn u16_at(bytes: &[u8], at: usize) -> Result<(u16, usize), Cut>
 pub fn u32_at(bytes: &[u8], at: usize) -> Result<(u32, usize), Cut>
     ensures there { IfOk result (λ x. IsThere bytes.now at (u4 x.0)) }
     ensures end { IfOk result (λ x. x.1 ≡ at + 4) }
+    ensures within { IfOk result (λ x. x.1 ≤ length bytes.now) }
     ensures cut { IfErr result (IsCut bytes.now at 4) }
 {
     let rest = from(bytes, at);
@@ -102,6 +104,8 @@ pub fn u64_at(bytes: &[u8], at: usize) -> Result<(u64, usize), Cut>
 /// `Cut` with the offset, exactly where fewer bytes are left.
 pub fn run_at(bytes: &[u8], at: usize, len: usize) -> Result<(&[u8], usize), Cut>
     ensures run { IfOk result (λ x. length x.0.now ≡ len) }
+    ensures range { IfOk result (λ x. x.0.now ≡ slice_range bytes.now at x.1) }
+    ensures within { at ≤ length bytes.now → IfOk result (λ x. x.1 ≤ length bytes.now) }
     ensures there { IfOk result (λ x. IsThere bytes.now at x.0.now) }
     ensures end { IfOk result (λ x. x.1 ≡ at + len) }
     ensures cut { IfErr result (IsCut bytes.now at len) }

@@ -1,6 +1,6 @@
 //! Class file texts.
 
-ghost use Rattle.std.specs.Prelude.{◌≡◌, ℕ, ◌↔◌, Some, IsTrue, IfOk, IfSome, IfNone, refl};
+ghost use Rattle.std.specs.Prelude.{◌≡◌, ℕ, ◌↔◌, ◌≤◌, length, slice_range, Some, IsTrue, IfOk, IfSome, IfNone, refl};
 ghost use Rattle.std.proofs.Common.{rules};
 ghost use Rattle.std.specs.Cmp.{partial_equiv_from_equiv};
 ghost use Rattle.std.specs.Cmp.Lexicographic.{nat_list_cmp_total, nat_list_eq_equiv, slice_cmp, texts_po, texts_ties};
@@ -15,6 +15,7 @@ ghost use Rattle.je_base.specs.Shown.{shown};
 ghost use Rattle.je_base.specs.Units.{Follows, SkipsSingles, are_singles};
 
 use crate::encoding::encode_text;
+use crate::run::Run;
 use crate::shown::show;
 use crate::stop::Memory;
 use std::alloc::Global;
@@ -23,9 +24,12 @@ use std::hash::{Hash, Hasher};
 use std::marker::Model;
 
 /// A text as class files have it: bytes in modified UTF-8 (JVMS 4.4.7).
+///
+/// It is a run of bytes, so that a text that was read keeps the whole block of its class in memory
+/// until it is dropped.
 #[derive(Debug, Drop)]
 pub struct Text {
-    bytes: Vec<u8>,
+    run: Run,
 }
 
 impl Model for Text {
@@ -34,9 +38,9 @@ impl Model for Text {
 
     ghost Value = { List ℕ };
 
-    ghost view = { λ text. text.bytes.items };
+    ghost view = { λ text. text.run };
 
-    ghost invariant = { λ text. IsModifiedUtf8 text.bytes.items };
+    ghost invariant = { λ text. IsModifiedUtf8 text.run };
 }
 
 impl Text {
@@ -54,7 +58,31 @@ impl Text {
             return Ok(None);
         }
         let bytes = Vec::from_slice(alloc, b)?;
-        Ok(Some(Text { bytes }))
+        let run = Run::of_vec(alloc, bytes)?;
+        Ok(Some(Text { run }))
+    }
+
+    /// The text of a part of a run, from one offset to another, or `None` where the bytes there are
+    /// not in modified UTF-8. No byte is copied.
+    ///
+    /// # Errors
+    ///
+    /// `Memory` where memory runs out.
+    pub fn of_part(run: &Run, start: usize, end: usize) -> Result<Option<Text>, Memory>
+        requires order { start ≤ end }
+        requires within { end ≤ length run.now }
+        ensures text { IfOk result (λ found. IfSome found (λ text.
+            text ≡ slice_range run.now start end)) }
+        ensures form { IfOk result (λ found. IfSome found (λ _.
+            IsModifiedUtf8 (slice_range run.now start end))) }
+        ensures none { IfOk result (λ found. IfNone found (
+            IsModifiedUtf8 (slice_range run.now start end) → ⊥)) }
+    {
+        if !is_modified_utf8(&run.as_slice()[start..end]) {
+            return Ok(None);
+        }
+        let run = run.part(start, end)?;
+        Ok(Some(Text { run }))
     }
 
     /// The text of a string.
@@ -66,7 +94,8 @@ impl Text {
         ensures { IfOk result (λ text. text ≡ encoding (chars s.now)) }
     {
         let bytes = encode_text(alloc, s)?;
-        Ok(Text { bytes })
+        let run = Run::of_vec(alloc, bytes)?;
+        Ok(Text { run })
     }
 
     /// The bytes of the text.
@@ -74,7 +103,7 @@ impl Text {
         ensures bytes { result.now ≡ self.now }
         ensures form { IsModifiedUtf8 result.now }
     {
-        &self.bytes
+        self.run.as_slice()
     }
 
     /// The same text once more.
@@ -85,8 +114,8 @@ impl Text {
     pub fn copy(&self) -> Result<Text, Memory>
         ensures { IfOk result (λ text. text ≡ self.now) }
     {
-        let bytes = self.bytes.clone()?;
-        Ok(Text { bytes })
+        let run = self.run.copy()?;
+        Ok(Text { run })
     }
 
     /// The text as a message shows it.
@@ -100,7 +129,7 @@ impl Text {
     pub fn show(&self) -> Result<String, Memory>
         ensures { IfOk result (λ s. string_bytes s ≡ shown self.now) }
     {
-        show(*self.bytes.allocator(), &self.bytes)
+        show(self.run.alloc(), self.run.as_slice())
     }
 }
 
@@ -114,7 +143,7 @@ impl PartialEq for Text {
         ensures value { result ≡ is_same_text self.now other.now }
         ensures same { IsTrue result ↔ self.now ≡ other.now }
     {
-        self.bytes.as_slice() == other.bytes.as_slice()
+        self.run.as_slice() == other.run.as_slice()
     }
 }
 
@@ -133,7 +162,7 @@ impl Ord for Text {
     ghost matches_eq = { texts_ties };
 
     fn cmp(&self, other: &Text) -> Ordering {
-        self.bytes.as_slice().cmp(other.bytes.as_slice())
+        self.run.as_slice().cmp(other.run.as_slice())
     }
 }
 
@@ -153,7 +182,7 @@ impl Hash for Text {
     ghost respects_eq = { Prim.search (hashing, rules) };
 
     fn hash<H: Hasher>(&self, state: &mut H) {
-        self.bytes.as_slice().hash(state);
+        self.run.as_slice().hash(state);
     }
 }
 

@@ -15,10 +15,9 @@ use crate::member::{Access, Attribute, Member};
 use crate::named::place_of;
 use crate::parts::Parts;
 use crate::summed::summary_of;
-use je_base::{Memory, Text};
+use je_base::{Memory, Run, Text};
 use je_consts::{ConstIndex, Consts};
 use je_desc::Summary;
-use sqlite_items::Items;
 use std::marker::Model;
 
 /// A class file (JVMS 4.1) whose indexes name what they have to, and whose numbers fit the file.
@@ -204,7 +203,7 @@ impl ClassFile {
 
     /// Puts other bytes, fewer than 4,294,967,296, into an attribute of a method. Both are named by
     /// their places.
-    pub fn set_method_attribute(&mut self, method: usize, attribute: usize, bytes: Items<u8>)
+    pub fn set_method_attribute(&mut self, method: usize, attribute: usize, bytes: Run)
         requires is_there { IsSomeAnd (slice_get self.old.methods method)
             (λ m. attribute < length m.attributes) }
         requires fits { length bytes < 2 ^ 32 }
@@ -218,7 +217,7 @@ impl ClassFile {
     ///
     /// Such a pool is a copy of `consts` to which constants were added: each index that was there
     /// names what it named.
-    pub fn set_code(&mut self, method: usize, attribute: usize, bytes: Items<u8>, consts: Consts)
+    pub fn set_code(&mut self, method: usize, attribute: usize, bytes: Run, consts: Consts)
         requires is_there { IsSomeAnd (slice_get self.old.methods method)
             (λ m. attribute < length m.attributes) }
         requires fits { length bytes < 2 ^ 32 }
@@ -233,7 +232,7 @@ impl ClassFile {
     }
 }
 
-fn set_attribute(methods: &mut [Member], method: usize, attribute: usize, bytes: Items<u8>)
+fn set_attribute(methods: &mut [Member], method: usize, attribute: usize, bytes: Run)
     requires { IsSomeAnd (slice_get methods.old method) (λ m. attribute < length m.attributes) }
     ensures { methods.new ≡ changed_at method (with_attribute attribute bytes) methods.old }
 {

@@ -9,12 +9,12 @@ use je_base::Memory;
 use sqlite_items::Items;
 use std::alloc::Global;
 
-fn copy_attribute(alloc: Global, attribute: &Attribute) -> Result<Attribute, Memory>
+fn copy_attribute(attribute: &Attribute) -> Result<Attribute, Memory>
     ensures { IfOk result (λ a. a ≡ attribute.now) }
 {
     Ok(Attribute {
         name: attribute.name,
-        bytes: Items::from_slice(alloc, attribute.bytes.as_slice())?,
+        bytes: attribute.bytes.copy()?,
     })
 }
 
@@ -23,7 +23,7 @@ fn copy_attributes(alloc: Global, attributes: &[Attribute]) -> Result<Vec<Attrib
 {
     let mut copies = Vec::new(alloc);
     for attribute in attributes {
-        copies.push(copy_attribute(alloc, attribute)?)?;
+        copies.push(copy_attribute(attribute)?)?;
     }
     Ok(copies)
 }

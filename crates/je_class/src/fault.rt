@@ -3,7 +3,7 @@
 ghost use Rattle.std.specs.Prelude.{◌≡◌};
 ghost use Rattle.je_class.specs.declared.fault.ClassFault.TheVariants as faults;
 
-use je_base::Cut;
+use je_base::{Cut, Memory};
 use std::alloc::{AllocError, AllocFailed};
 use thiserror::Error;
 
@@ -51,6 +51,14 @@ impl From<Cut> for ClassFault {
 
     fn from(cut: Cut) -> ClassFault {
         ClassFault::Truncated(cut.0)
+    }
+}
+
+impl From<Memory> for ClassFault {
+    ghost from_gives = { λ _ e. e ≡ faults.Memory };
+
+    fn from(_e: Memory) -> ClassFault {
+        ClassFault::Memory
     }
 }
 

@@ -1,5 +1,6 @@
 //! Fields, methods and attributes in memory.
 
+use je_base::Run;
 use je_consts::ConstIndex;
 use sqlite_items::Items;
 
@@ -12,13 +13,14 @@ pub(crate) const LEAST_ATTRIBUTE: usize = 6;
 /// The least bytes of a field or a method: three numbers, and the count of its attributes.
 pub(crate) const LEAST_MEMBER: usize = 8;
 
-/// An attribute (JVMS 4.7), whose content is kept as bytes.
+/// An attribute (JVMS 4.7), whose content is kept as bytes: where it was read, as a part of the
+/// class file's own.
 #[derive(Debug, Drop)]
 pub struct Attribute {
     /// The index of its name in the constant pool.
     pub name: ConstIndex,
     /// At most 4,294,967,295 bytes.
-    pub bytes: Items<u8>,
+    pub bytes: Run,
 }
 
 /// A field or a method (JVMS 4.5 and 4.6).

@@ -1,5 +1,7 @@
 //! The tables of a class file: its interfaces, fields, methods and attributes (JVMS 4.1 and 4.5 to
 //! 4.7).
+//!
+//! Each is read from the bytes of a block, and what is kept as bytes is a part of that block.
 
 ghost use Rattle.std.specs.Prelude.{◌≡◌, ◌*◌, ◌<◌, ◌≤◌, length};
 ghost use Rattle.je_base.specs.Parts.{table_parts};
@@ -9,7 +11,7 @@ ghost use Rattle.je_class.specs.Reading.{Reads, descriptor_of, parts_of_kind};
 use crate::check::{Sought, index_at};
 use crate::fault::ClassFault;
 use crate::member::{Access, Attribute, LEAST_ATTRIBUTE, LEAST_MEMBER, Member};
-use je_base::{run_at, u16_at, u32_at};
+use je_base::{Run, run_at, u16_at, u32_at};
 use je_consts::Consts;
 use sqlite_items::Items;
 use std::alloc::Global;
@@ -67,28 +69,32 @@ pub(crate) fn interfaces_at(
     Ok((interfaces, next))
 }
 
+/// The attribute at an offset, whose content is a part of the block, and the offset after it.
 fn attribute_at(
-    alloc: Global,
+    block: &Run,
     consts: &Consts,
     bytes: &[u8],
     at: usize,
 ) -> Result<(Attribute, usize), ClassFault>
+    requires same { block.now ≡ bytes.now }
     ensures { Reads (λ x. x) bytes.now at (attribute_parts consts.now) result }
 {
     let (name, at) = index_at(consts, Sought::AttributeName, bytes, at)?;
     let (len, at) = u32_at(bytes, at)?;
-    let (run, at) = run_at(bytes, at, len as usize)?;
-    let bytes = Items::from_slice(alloc, run)?;
-    Ok((Attribute { name, bytes }, at))
+    let (_, end) = run_at(bytes, at, len as usize)?;
+    let bytes = block.part(at, end)?;
+    Ok((Attribute { name, bytes }, end))
 }
 
 /// The attributes of a class or of a member, and the offset after them.
 pub(crate) fn attributes_at(
     alloc: Global,
+    block: &Run,
     consts: &Consts,
     bytes: &[u8],
     at: usize,
 ) -> Result<(Vec<Attribute>, usize), ClassFault>
+    requires same { block.now ≡ bytes.now }
     ensures { Reads (λ x. (x.0.items, x.1)) bytes.now at
         (table_parts (attribute_parts consts.now)) result }
 {
@@ -97,7 +103,7 @@ pub(crate) fn attributes_at(
     let mut attributes = Vec::with_capacity(alloc, room)?;
     let mut next = start;
     for _ in 0..count {
-        let (attribute, after) = attribute_at(alloc, consts, bytes, next)?;
+        let (attribute, after) = attribute_at(block, consts, bytes, next)?;
         attributes.push(attribute)?;
         next = after;
     }
@@ -106,17 +112,19 @@ pub(crate) fn attributes_at(
 
 fn member_at(
     alloc: Global,
+    block: &Run,
     consts: &Consts,
     kind: Kind,
     bytes: &[u8],
     at: usize,
 ) -> Result<(Member, usize), ClassFault>
+    requires same { block.now ≡ bytes.now }
     ensures { Reads (λ x. x) bytes.now at (parts_of_kind consts.now kind) result }
 {
     let (access, at) = u16_at(bytes, at)?;
     let (name, at) = index_at(consts, Sought::Text, bytes, at)?;
     let (descriptor, at) = index_at(consts, descriptor_of(kind, access), bytes, at)?;
-    let (attributes, at) = attributes_at(alloc, consts, bytes, at)?;
+    let (attributes, at) = attributes_at(alloc, block, consts, bytes, at)?;
     let member = Member {
         access,
         name,
@@ -129,11 +137,13 @@ fn member_at(
 /// The fields or the methods of a class, and the offset after them.
 pub(crate) fn members_at(
     alloc: Global,
+    block: &Run,
     consts: &Consts,
     kind: Kind,
     bytes: &[u8],
     at: usize,
 ) -> Result<(Vec<Member>, usize), ClassFault>
+    requires same { block.now ≡ bytes.now }
     ensures { Reads (λ x. (x.0.items, x.1)) bytes.now at
         (table_parts (parts_of_kind consts.now kind)) result }
 {
@@ -142,7 +152,7 @@ pub(crate) fn members_at(
     let mut members = Vec::with_capacity(alloc, room)?;
     let mut next = start;
     for _ in 0..count {
-        let (member, after) = member_at(alloc, consts, kind, bytes, next)?;
+        let (member, after) = member_at(alloc, block, consts, kind, bytes, next)?;
         members.push(member)?;
         next = after;
     }

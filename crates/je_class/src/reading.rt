@@ -17,7 +17,7 @@ use crate::laws::one_class_way;
 use crate::member::{Attribute, Member};
 use crate::members::{Kind, attributes_at, interfaces_at, members_at};
 use crate::parts::Parts;
-use je_base::{u16_at, u32_at};
+use je_base::{Run, u16_at, u32_at};
 use je_consts::{ConstFault, Consts};
 use std::alloc::Global;
 
@@ -58,11 +58,17 @@ fn pool_fault(fault: ConstFault) -> ClassFault
     }
 }
 
-fn pool_at(alloc: Global, bytes: &[u8], at: usize) -> Result<(Consts, usize), ClassFault>
-    requires { at ≤ length bytes.now }
+fn pool_at(
+    alloc: Global,
+    block: &Run,
+    bytes: &[u8],
+    at: usize,
+) -> Result<(Consts, usize), ClassFault>
+    requires within { at ≤ length bytes.now }
+    requires same { block.now ≡ bytes.now }
     ensures { Reads (λ x. x) bytes.now at (λ places. Nested places ∷ []) result }
 {
-    match Consts::read(alloc, bytes, at) {
+    match Consts::read(alloc, block, at) {
         Ok((places, end)) => Ok((places, end)),
         Err(fault) => Err(pool_fault(fault)),
     }
@@ -83,28 +89,33 @@ type Lists = (Vec<u16>, Vec<Member>, Vec<Member>, Vec<Attribute>);
 
 fn lists_at(
     alloc: Global,
+    block: &Run,
     consts: &Consts,
     bytes: &[u8],
     at: usize,
 ) -> Result<(Lists, usize), ClassFault>
+    requires same { block.now ≡ bytes.now }
     ensures { Reads (λ x. ((x.0.0.items, x.0.1.items, x.0.2.items, x.0.3.items), x.1)) bytes.now at
         (lists_parts consts.now) result }
 {
     let (interfaces, at) = interfaces_at(alloc, consts, bytes, at)?;
-    let (fields, at) = members_at(alloc, consts, Kind::Fields, bytes, at)?;
-    let (methods, at) = members_at(alloc, consts, Kind::Methods, bytes, at)?;
-    let (attributes, at) = attributes_at(alloc, consts, bytes, at)?;
+    let (fields, at) = members_at(alloc, block, consts, Kind::Fields, bytes, at)?;
+    let (methods, at) = members_at(alloc, block, consts, Kind::Methods, bytes, at)?;
+    let (attributes, at) = attributes_at(alloc, block, consts, bytes, at)?;
     Ok(((interfaces, fields, methods, attributes), at))
 }
 
 /// The class file at the front of the bytes, and the offset at which it ends.
-fn parts_at(alloc: Global, bytes: &[u8]) -> Result<(Parts, usize), ClassFault>
+fn parts_at(alloc: Global, block: &Run, bytes: &[u8]) -> Result<(Parts, usize), ClassFault>
+    requires same { block.now ≡ bytes.now }
     ensures { ReadsClass (λ x. (class_of_parts x.0, x.1)) bytes.now result }
 {
     let ((minor, major), at) = start_at(bytes)?;
-    let (consts, at) = pool_at(alloc, bytes, at)?;
+    let (consts, at) = pool_at(alloc, block, bytes, at)?;
     let ((access, this_class, super_class), at) = own_at(&consts, bytes, at)?;
-    let ((interfaces, fields, methods, attributes), at) = lists_at(alloc, &consts, bytes, at)?;
+    let ((interfaces, fields, methods, attributes), at) = lists_at(
+        alloc, block, &consts, bytes, at,
+    )?;
     let parts = Parts {
         minor,
         major,
@@ -120,7 +131,17 @@ fn parts_at(alloc: Global, bytes: &[u8]) -> Result<(Parts, usize), ClassFault>
     Ok((parts, at))
 }
 
+/// The class file at the front of a run, and the offset at which it ends.
+fn parts_of(alloc: Global, bytes: &Run) -> Result<(Parts, usize), ClassFault>
+    ensures { ReadsClass (λ x. (class_of_parts x.0, x.1)) bytes.now result }
+{
+    parts_at(alloc, bytes, bytes.as_slice())
+}
+
 /// The class file that the bytes spell, all of the bytes (JVMS 4.1).
+///
+/// Its texts, its attributes and the bytes of its constant pool are parts of the run and are not
+/// copied. So the block of the run stays in memory until the last of them is dropped.
 ///
 /// # Errors
 ///
@@ -135,7 +156,7 @@ fn parts_at(alloc: Global, bytes: &[u8]) -> Result<(Parts, usize), ClassFault>
 /// units, with one for `this` unless it is static. `BadAttribute` has the offset of the index of an
 /// attribute's name that names no text. `Trailing` has the offset of the first byte behind the
 /// class file. `Memory` comes where memory runs out.
-pub fn read_class(alloc: Global, bytes: &[u8]) -> Result<ClassFile, ClassFault>
+pub fn read_class(alloc: Global, bytes: &Run) -> Result<ClassFile, ClassFault>
     // What is read is spelled by the bytes.
     ensures found { IfOk result (ClassBytes bytes.now) }
     ensures within { OnOk result (length bytes.now ≤ MOST_BYTES) }
@@ -155,7 +176,7 @@ pub fn read_class(alloc: Global, bytes: &[u8]) -> Result<ClassFile, ClassFault>
     if bytes.len() > MOST_BYTES {
         return Err(ClassFault::TooLong);
     }
-    let (parts, end) = parts_at(alloc, bytes)?;
+    let (parts, end) = parts_of(alloc, bytes)?;
     if end < bytes.len() {
         return Err(ClassFault::Trailing(end));
     }

@@ -18,7 +18,7 @@ use crate::lookup::{const_in, count_of};
 use crate::place::Place;
 use crate::reading::pool_of;
 use crate::writing::put_pool;
-use je_base::{Memory, Text};
+use je_base::{Memory, Run, Text};
 use std::alloc::Global;
 use std::marker::Model;
 use std::rc::Rc;
@@ -27,10 +27,11 @@ use std::rc::Rc;
 ///
 /// Contracts see it as the list of its places: what stands at index 1 first.
 ///
-/// What was read is shared with each copy, and only what was added after that is a pool's own. So a
-/// copy costs what was added.
+/// What was read, the places and their bytes, is shared with each copy, and only what was added
+/// after that is a pool's own. So a copy costs what was added.
 #[derive(Debug, Drop)]
 pub struct Consts {
+    spelled: Run,
     base: Rc<Vec<Place>>,
     base_index: Option<Rc<Index>>,
     tail: Vec<Place>,
@@ -38,8 +39,9 @@ pub struct Consts {
 }
 
 impl Model for Consts {
-    ghost use Rattle.std.specs.Prelude.{List, ◌++◌, IfSome};
+    ghost use Rattle.std.specs.Prelude.{List, ◌≡◌, ◌++◌, IfSome};
     ghost use Rattle.je_consts.specs.declared.place.Place.{Place};
+    ghost use Rattle.je_consts.specs.Layout.{pool_layout};
     ghost use Rattle.je_consts.specs.Pool.{IsPool};
     ghost use Rattle.je_consts.specs.Indexed.{IsIndexOf};
 
@@ -47,13 +49,17 @@ impl Model for Consts {
 
     ghost view = { λ c. c.base.value.items ++ c.tail.items };
 
-    ghost invariant = { λ c. IsPool (c.base.value.items ++ c.tail.items)
+    ghost invariant = { λ c. (c.spelled ≡ pool_layout c.base.value.items)
+        × IsPool (c.base.value.items ++ c.tail.items)
         × IfSome c.base_index (λ index. IsIndexOf c.base.value.items index.value)
         × IfSome c.tail_index (IsIndexOf c.tail.items) };
 }
 
 impl Consts {
     /// The constant pool whose count stands at this offset, and the offset after its last entry.
+    ///
+    /// Its texts are parts of the run, and so are its bytes, which are put in one copy when it is
+    /// written. So the block of the run stays in memory until the last of them is dropped.
     ///
     /// # Errors
     ///
@@ -64,7 +70,7 @@ impl Consts {
     /// of a kind outside 1 to 9, for a Long or Double at the last index, once its number is read,
     /// and for an entry that names one of a tag that does not fit. `Memory` comes where memory runs
     /// out.
-    pub fn read(alloc: Global, bytes: &[u8], at: usize) -> Result<(Consts, usize), ConstFault>
+    pub fn read(alloc: Global, bytes: &Run, at: usize) -> Result<(Consts, usize), ConstFault>
         requires { at ≤ length bytes.now }
 
         // What is read is spelled there.
@@ -80,18 +86,23 @@ impl Consts {
             MatchResult result (λ _. ⊥) (λ e. (e ≡ ConstFault.Memory) ⊎ (e ≡ d)) }
     {
         match pool_of(alloc, bytes, at) {
-            Ok((places, end)) => Ok((Consts::of_places(alloc, places)?, end)),
+            Ok((places, end)) => {
+                let spelled = bytes.part(at, end)?;
+                Ok((Consts::of_places(alloc, spelled, places)?, end))
+            }
             Err(fault) => Err(fault),
         }
     }
 
     /// The pool of these places.
-    fn of_places(alloc: Global, places: Vec<Place>) -> Result<Consts, ConstFault>
-        requires { IsPool places.items }
+    fn of_places(alloc: Global, spelled: Run, places: Vec<Place>) -> Result<Consts, ConstFault>
+        requires pool { IsPool places.items }
+        requires spelled { spelled ≡ pool_layout places.items }
         ensures { MatchResult result (λ c. c ≡ places.items) (λ e. e ≡ ConstFault.Memory) }
     {
         let base = Rc::new(alloc, places)?;
         Ok(Consts {
+            spelled,
             base,
             base_index: None,
             tail: Vec::new(alloc),
@@ -218,7 +229,7 @@ impl Consts {
     pub fn write_to(&self, out: &mut Vec<u8>) -> Result<(), Memory>
         ensures { OnOk result (out.new.items ≡ out.old.items ++ pool_layout self.now) }
     {
-        put_pool(out, &self.base, &self.tail)
+        put_pool(out, self.spelled.as_slice(), &self.base, &self.tail)
     }
 
     /// The bytes of the pool: the count and the entries.
@@ -256,6 +267,7 @@ impl Consts {
         };
         let tail = copy_places(*self.tail.allocator(), &self.tail)?;
         Ok(Consts {
+            spelled: self.spelled.copy()?,
             base,
             base_index,
             tail,

@@ -1,37 +1,35 @@
 //! The entries of a constant pool, each read behind its tag (JVMS 4.4).
 
+ghost use Rattle.std.specs.Prelude.{◌≤◌, length, slice_range};
 ghost use Rattle.std.specs.Int.{w16, w32, w64};
 ghost use Rattle.je_consts.specs.Reading.{Gives, integer_of, long_of, text_from, one_at, two_at, utf8_at, handle_at, info_at, entry_at};
 
 use crate::constant::{Const, ConstIndex};
 use crate::fault::ConstFault;
 use crate::tags::{self, GREATEST_KIND, LEAST_KIND};
-use je_base::{Text, run_at, u8_at, u16_at, u32_at, u64_at};
-use std::alloc::Global;
+use je_base::{Run, Text, run_at, u8_at, u16_at, u32_at, u64_at};
 
-/// The text of these bytes, which the entry of this index has.
-fn text_of(alloc: Global, index: ConstIndex, bytes: &[u8]) -> Result<Text, ConstFault>
-    ensures { Gives (λ text. text) result (text_from index bytes.now) }
+/// The text of a part of these bytes, which the entry of this index has.
+fn text_of(index: ConstIndex, bytes: &Run, start: usize, end: usize) -> Result<Text, ConstFault>
+    requires order { start ≤ end }
+    requires within { end ≤ length bytes.now }
+    ensures { Gives (λ text. text) result (text_from index (slice_range bytes.now start end)) }
 {
-    match Text::from_bytes(alloc, bytes)? {
+    match Text::of_part(bytes, start, end)? {
         Some(text) => Ok(text),
         None => Err(ConstFault::BadConst(index)),
     }
 }
 
 #[tactic(auto, unfolding(crate::specs::Reading::utf8_at))]
-fn utf8_of(
-    alloc: Global,
-    index: ConstIndex,
-    bytes: &[u8],
-    at: usize,
-) -> Result<(Const, usize), ConstFault>
+fn utf8_of(index: ConstIndex, bytes: &Run, at: usize) -> Result<(Const, usize), ConstFault>
     ensures { Gives (λ x. x) result (utf8_at index bytes.now at) }
 {
-    let (len, at) = u16_at(bytes, at)?;
-    let (run, at) = run_at(bytes, at, len as usize)?;
-    let text = text_of(alloc, index, run)?;
-    Ok((Const::Utf8(text), at))
+    let slice = bytes.as_slice();
+    let (len, at) = u16_at(slice, at)?;
+    let (_, end) = run_at(slice, at, len as usize)?;
+    let text = text_of(index, bytes, at, end)?;
+    Ok((Const::Utf8(text), end))
 }
 
 #[tactic(auto, unfolding(crate::specs::Reading::one_at))]
@@ -149,30 +147,25 @@ fn invoke_dynamic_of(bytes: &[u8], at: usize) -> Result<(Const, usize), ConstFau
 
 /// What stands behind the tag of the entry of this index.
 #[tactic(auto, unfolding(crate::specs::Reading::info_at))]
-fn info_of(
-    alloc: Global,
-    index: ConstIndex,
-    tag: u8,
-    bytes: &[u8],
-    at: usize,
-) -> Result<(Const, usize), ConstFault>
+fn info_of(index: ConstIndex, tag: u8, bytes: &Run, at: usize) -> Result<(Const, usize), ConstFault>
     ensures { Gives (λ x. x) result (info_at index tag bytes.now at) }
 {
+    let slice = bytes.as_slice();
     match tag {
-        tags::UTF8 => utf8_of(alloc, index, bytes, at),
-        tags::INTEGER => integer_of(bytes, at),
-        tags::FLOAT => float_of(bytes, at),
-        tags::LONG => long_of(bytes, at),
-        tags::DOUBLE => double_of(bytes, at),
-        tags::CLASS => class_of(bytes, at),
-        tags::STRING => string_of(bytes, at),
-        tags::FIELDREF => field_of(bytes, at),
-        tags::METHODREF => method_of(bytes, at),
-        tags::INTERFACE_METHODREF => interface_method_of(bytes, at),
-        tags::NAME_AND_TYPE => name_and_type_of(bytes, at),
-        tags::METHOD_HANDLE => handle_of(index, bytes, at),
-        tags::METHOD_TYPE => method_type_of(bytes, at),
-        tags::INVOKE_DYNAMIC => invoke_dynamic_of(bytes, at),
+        tags::UTF8 => utf8_of(index, bytes, at),
+        tags::INTEGER => integer_of(slice, at),
+        tags::FLOAT => float_of(slice, at),
+        tags::LONG => long_of(slice, at),
+        tags::DOUBLE => double_of(slice, at),
+        tags::CLASS => class_of(slice, at),
+        tags::STRING => string_of(slice, at),
+        tags::FIELDREF => field_of(slice, at),
+        tags::METHODREF => method_of(slice, at),
+        tags::INTERFACE_METHODREF => interface_method_of(slice, at),
+        tags::NAME_AND_TYPE => name_and_type_of(slice, at),
+        tags::METHOD_HANDLE => handle_of(index, slice, at),
+        tags::METHOD_TYPE => method_type_of(slice, at),
+        tags::INVOKE_DYNAMIC => invoke_dynamic_of(slice, at),
         _ => Err(ConstFault::BadConst(index)),
     }
 }
@@ -180,13 +173,12 @@ fn info_of(
 /// The entry of this index, and the offset after it.
 #[tactic(auto, unfolding(crate::specs::Reading::entry_at))]
 pub(crate) fn entry_of(
-    alloc: Global,
     index: ConstIndex,
-    bytes: &[u8],
+    bytes: &Run,
     at: usize,
 ) -> Result<(Const, usize), ConstFault>
     ensures { Gives (λ x. x) result (entry_at index bytes.now at) }
 {
-    let (tag, at) = u8_at(bytes, at)?;
-    info_of(alloc, index, tag, bytes, at)
+    let (tag, at) = u8_at(bytes.as_slice(), at)?;
+    info_of(index, tag, bytes, at)
 }

@@ -13,7 +13,7 @@ use crate::constant::Const;
 use crate::entries::entry_of;
 use crate::fault::ConstFault;
 use crate::place::Place;
-use je_base::u16_at;
+use je_base::{Run, u16_at};
 use std::alloc::Global;
 
 /// Whether the place is that of a Long or Double.
@@ -35,19 +35,13 @@ pub(crate) fn is_wide(entry: &Const) -> bool
 
 /// What stands at an index; `wide` says that a Long or Double stands at the index before.
 #[tactic(auto, unfolding(crate::specs::Reading::place_at))]
-fn place_of(
-    alloc: Global,
-    wide: bool,
-    index: u16,
-    bytes: &[u8],
-    at: usize,
-) -> Result<(Place, usize), ConstFault>
+fn place_of(wide: bool, index: u16, bytes: &Run, at: usize) -> Result<(Place, usize), ConstFault>
     ensures { Gives (λ x. x) result (place_at wide index bytes.now at) }
 {
     if wide {
         return Ok((Place::Second, at));
     }
-    let (entry, at) = entry_of(alloc, index, bytes, at)?;
+    let (entry, at) = entry_of(index, bytes, at)?;
     Ok((Place::Entry(entry), at))
 }
 
@@ -55,7 +49,7 @@ fn place_of(
 fn places_of(
     alloc: Global,
     count: u16,
-    bytes: &[u8],
+    bytes: &Run,
     at: usize,
 ) -> Result<(Vec<Place>, usize), ConstFault>
     requires { 1 ≤ count }
@@ -65,7 +59,7 @@ fn places_of(
     let mut next = at;
     let mut wide = false;
     for index in 1..count {
-        let (place, after) = place_of(alloc, wide, index, bytes, next)?;
+        let (place, after) = place_of(wide, index, bytes, next)?;
         wide = leads_second(&place);
         places.push(place)?;
         next = after;
@@ -78,10 +72,10 @@ fn places_of(
 
 /// The places that the bytes spell, whatever their indexes name.
 #[tactic(auto, unfolding(crate::specs::Reading::spelled_at))]
-fn spelled_of(alloc: Global, bytes: &[u8], at: usize) -> Result<(Vec<Place>, usize), ConstFault>
+fn spelled_of(alloc: Global, bytes: &Run, at: usize) -> Result<(Vec<Place>, usize), ConstFault>
     ensures { Gives (λ x. (x.0.items, x.1)) result (spelled_at bytes.now at) }
 {
-    let (count, at) = u16_at(bytes, at)?;
+    let (count, at) = u16_at(bytes.as_slice(), at)?;
     if count == 0 {
         return Err(ConstFault::BadConst(0));
     }
@@ -91,7 +85,7 @@ fn spelled_of(alloc: Global, bytes: &[u8], at: usize) -> Result<(Vec<Place>, usi
 /// The places of the pool that stands at an offset, and the offset after it.
 pub(crate) fn pool_of(
     alloc: Global,
-    bytes: &[u8],
+    bytes: &Run,
     at: usize,
 ) -> Result<(Vec<Place>, usize), ConstFault>
     requires { at ≤ length bytes.now }
@@ -102,6 +96,7 @@ pub(crate) fn pool_of(
     ensures exact { (d : ConstFault) → FirstFault bytes.now at d →
         MatchResult result (λ _. ⊥) (λ e. (e ≡ ConstFault.Memory) ⊎ (e ≡ d)) }
 {
+    bytes.sound();
     let (places, end) = match spelled_of(alloc, bytes, at) {
         Ok(spelled) => spelled,
         Err(fault) => return Err(fault),

@@ -75,41 +75,22 @@ fn put_places(out: &mut Vec<u8>, places: &[Place]) -> Result<(), Memory>
     Ok(())
 }
 
-/// How many bytes stand at a place.
-fn size_of(place: &Place) -> usize
-    ensures { result ≡ length (place_layout place.now) }
-{
-    match place {
-        Place::Entry(Const::Utf8(text)) => 3 + text.bytes().len(),
-        Place::Entry(Const::Class(_) | Const::Str(_) | Const::MethodType(_)) => 3,
-        Place::Entry(Const::MethodHandle(..)) => 4,
-        Place::Entry(Const::Long(_) | Const::Double(_)) => 9,
-        Place::Entry(_) => 5,
-        Place::Second => 0,
-    }
-}
-
-/// Makes room for the entries.
-fn make_room(out: &mut Vec<u8>, places: &[Place]) -> Result<(), Memory>
-    ensures { out.new.items ≡ out.old.items }
-{
-    let mut size: usize = 0;
-    for place in places {
-        size = size.saturating_add(size_of(place));
-    }
-    out.reserve(size)?;
-    Ok(())
-}
-
 /// Puts the count and the entries of these places, one after the other, behind the others.
-pub(crate) fn put_pool(out: &mut Vec<u8>, base: &[Place], tail: &[Place]) -> Result<(), Memory>
+///
+/// The bytes of those that were read are given, and put in one copy.
+pub(crate) fn put_pool(
+    out: &mut Vec<u8>,
+    spelled: &[u8],
+    base: &[Place],
+    tail: &[Place],
+) -> Result<(), Memory>
+    requires spelled { spelled.now ≡ pool_layout base.now }
     requires count { length (base.now ++ tail.now) + 1 < 2 ^ 16 }
     requires each { AllByRecursion (OfEntry Fits) (base.now ++ tail.now) }
     ensures { OnOk result (out.new.items ≡ out.old.items ++ pool_layout (base.now ++ tail.now)) }
 {
     put_u16(out, count_of(base, tail) as u16)?;
-    make_room(out, base)?;
-    put_places(out, base)?;
-    make_room(out, tail)?;
+    let (_, entries) = spelled.split_at(2);
+    out.extend_from_slice(entries)?;
     put_places(out, tail)
 }

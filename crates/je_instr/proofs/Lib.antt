@@ -11,3 +11,13 @@ pub mod ProgramLemmas
 pub mod RowLemmas
 pub mod OperandLemmas
 pub mod SampleLemmas
+pub mod FormLemmas
+pub mod EndLemmas
+pub mod FollowLemmas
+pub mod ZipLemmas
+pub mod PlaceLemmas
+pub mod TestLemmas
+pub mod TextLemmas
+pub mod ConstLemmas
+pub mod DecodeLemmas
+pub mod TotalLemmas

@@ -11,21 +11,21 @@ both false b e = absurd cc
 
 -- ---- below a limit: each one is tried
 
-abbrev is_same : Bool → Bool → Bool
+abbrev pub is_same : Bool → Bool → Bool
 is_same true b = b
 is_same false b = not b
 
-same_is : (a b : Bool) → is_same a b ≡ true → a ≡ b
+pub same_is : (a b : Bool) → is_same a b ≡ true → a ≡ b
 same_is true true e = refl
 same_is true false e = absurd cc
 same_is false true e = absurd cc
 same_is false false e = refl
 
-abbrev all_from : (ℕ → Bool) → ℕ → ℕ → Bool
+abbrev pub all_from : (ℕ → Bool) → ℕ → ℕ → Bool
 all_from p zero from = true
 all_from p (suc count) from = p from && all_from p count (suc from)
 
-each_from : (p : ℕ → Bool) (k count from : ℕ) → k < count → all_from p count from ≡ true → p (from + k) ≡ true
+pub each_from : (p : ℕ → Bool) (k count from : ℕ) → k < count → all_from p count from ≡ true → p (from + k) ≡ true
 each_from p k zero from lt e = absurd (omega (arith, lt))
 each_from p zero (suc count) from lt e =
     subst (λ (n : ℕ). p n ≡ true) (omega arith) (both (p from) (all_from p count (suc from)) e).0

@@ -11,3 +11,10 @@ pub mod Methods
 pub mod Plain
 pub mod Reading
 pub mod Sample
+pub mod Forms
+pub mod FormReading
+pub mod Decoding
+pub mod Walking
+pub mod Indexing
+pub mod OpcodeTests
+pub mod Views

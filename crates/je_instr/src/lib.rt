@@ -5,25 +5,39 @@
 //! and each instruction with operands that are allowed is one operation.
 #![tactic(auto)]
 
+mod allowed;
 mod callee;
+mod calls;
 mod code;
+mod decoder;
 mod decoding;
 mod encoding;
+mod entries;
+mod fault;
+mod form;
 mod instr;
 mod laws;
 pub mod opcodes;
 mod operands;
+mod program;
 mod programs;
+mod ranges;
 mod stop;
 mod table;
+mod targets;
+mod texts;
+mod walk;
 
 pub use callee::called_method;
 pub use code::{MethodCode, read_code, write_code};
+pub use decoder::{decode_code, one_decoding};
 pub use decoding::decode;
 pub use encoding::encode;
+pub use fault::CodeFault;
 pub use instr::{Case, Instr, InstrIndex, Opcode, Slot};
 pub use laws::{constants_mean, contents_stay, one_program, opcodes_mean, operations_exist};
 pub use operands::{loads_mean, members_mean};
+pub use program::{Decoded, Handler, Program, RawHandler};
 pub use programs::{programs_mean, two_calls_are_shown};
 pub use stop::CodeStop;
 pub use table::{operand_opcodes, simple_opcodes};

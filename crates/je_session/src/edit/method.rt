@@ -10,6 +10,7 @@ use crate::edit::editable::find_editable;
 use crate::edit::splice::splice;
 use crate::edit::stop::EditStop;
 use crate::plan::MethodPlan;
+use je_base::Run;
 use je_class::ClassFile;
 use je_instr::{MethodCode, one_program, opcodes_mean, write_code};
 use je_machine::{actions_do, machine_runs};
@@ -61,6 +62,7 @@ pub fn edit_method(
         instrs: Items::from_vec(instrs),
     };
     let bytes = write_code(alloc, &code)?;
-    class.set_method_attribute(editable.at, 0, Items::from_vec(bytes));
+    let run = Run::of_vec(alloc, bytes)?;
+    class.set_method_attribute(editable.at, 0, run);
     Ok(count)
 }

@@ -1,6 +1,6 @@
 //! All that a run does before its first output: it reads, edits, and makes the bytes and the lines.
 
-ghost use Rattle.std.specs.Prelude.{◌≡◌, ℕ, ◌≤◌, List, vec_len, IfOk, IfErr, IfSome, OnOk};
+ghost use Rattle.std.specs.Prelude.{◌≡◌, ℕ, ◌≤◌, List, length, IfOk, IfErr, IfSome, OnOk};
 ghost use Rattle.je_base.specs.Count.{HasFault};
 ghost use Rattle.je_session.specs.Texts.{texts};
 ghost use Rattle.je_session.specs.Forms.{IsLine, Holds, ReadsScript, class_path};
@@ -17,7 +17,7 @@ use crate::session::report::Stop;
 use crate::session::source::load_class;
 use crate::session::words::script_path;
 use crate::status::Status;
-use je_base::Files;
+use je_base::{Files, Run};
 use je_class::{ClassFault, MOST_BYTES};
 use std::alloc::Global;
 
@@ -74,15 +74,11 @@ fn read_script<F: Files>(alloc: Global, words: &[String], files: &mut F) -> Resu
 }
 
 // The bytes of the script's class.
-fn read_class_bytes<F: Files>(
-    alloc: Global,
-    script: &Script,
-    files: &mut F,
-) -> Result<Vec<u8>, Stop>
+fn read_class_bytes<F: Files>(alloc: Global, script: &Script, files: &mut F) -> Result<Run, Stop>
     requires { HasAsciiNames script.now }
     ensures found { IfOk result (λ bytes.
-        Holds (F.contents files.old) (class_path script.now.class_name) bytes.items) }
-    ensures within { IfOk result (λ bytes. vec_len bytes ≤ MOST_BYTES) }
+        Holds (F.contents files.old) (class_path script.now.class_name) bytes) }
+    ensures within { IfOk result (λ bytes. length bytes ≤ MOST_BYTES) }
     ensures stopped { IfErr result (StoppedAtClass script.now (F.contents files.old)
         (HasFault (F.faults files.old) (F.faults files.new))) }
     ensures contents { F.contents files.new ≡ F.contents files.old }
@@ -91,7 +87,7 @@ fn read_class_bytes<F: Files>(
 {
     let path = class_file(alloc, "./", script.class_name.bytes())?;
     match read_within(files, path.as_str(), MOST_BYTES) {
-        Ok(bytes) => Ok(bytes),
+        Ok(bytes) => Ok(Run::of_vec(alloc, bytes)?),
         Err(NotRead::Missing) => Err(Stop::no_class(alloc, &script.class_name)),
         Err(NotRead::TooLong) => Err(Stop::bad_class(
             alloc,

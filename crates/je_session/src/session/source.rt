@@ -7,7 +7,7 @@ ghost use Rattle.je_session.specs.Prepared.{IsSource};
 
 use crate::plan::Script;
 use crate::session::report::Stop;
-use je_base::Text;
+use je_base::{Run, Text};
 use je_class::{ClassFault, ClassFile, read_class};
 use std::alloc::Global;
 
@@ -19,7 +19,7 @@ const MAJOR: u16 = 49;
 /// # Errors
 ///
 /// The bytes are no class file, or one of another class or version; or there was not enough memory.
-pub fn load_class(alloc: Global, script: &Script, bytes: &[u8]) -> Result<ClassFile, Stop>
+pub fn load_class(alloc: Global, script: &Script, bytes: &Run) -> Result<ClassFile, Stop>
     ensures found { IfOk result (IsSource script.now bytes.now) }
     ensures stopped { IfErr result (StoppedAtBytes script.now bytes.now) }
 {

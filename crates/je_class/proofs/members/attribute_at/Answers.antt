@@ -14,7 +14,7 @@ returns-in_err-len c =
     let p = err_from_is_err_and c.from_residual-in_err-len.result c.from_residual-in_err-len.ensures.1 in
     rw (p.1, p.2) (inr (record { name = c.in_ok-name.name; bytes = [] }, then c.in_ok-name.ensures (stops _ (u4_cut 0 [] c.in_err-len.ensures.cut))))
 
-pub returns-in_err-run : goal.returns-in_err-run
-returns-in_err-run c =
-    let p = err_from_is_err_and c.from_residual-in_err-run.result c.from_residual-in_err-run.ensures.1 in
-    rw (p.1, p.2) (inr (attribute_cut c.in_ok-name.ensures c.in_ok-len.ensures.there c.in_ok-len.ensures.end (omega arith) c.in_err-run.ensures.cut))
+pub returns-in_err-end : goal.returns-in_err-end
+returns-in_err-end c =
+    let p = err_from_is_err_and c.from_residual-in_err-end.result c.from_residual-in_err-end.ensures.1 in
+    rw (p.1, p.2) (inr (attribute_cut c.in_ok-name.ensures c.in_ok-len.ensures.there c.in_ok-len.ensures.end (omega arith) c.in_err-end.ensures.cut))

@@ -9,8 +9,8 @@ returns-in_err-minor c =
     let p = err_from_is_err_and c.from_residual.result c.from_residual.ensures.1 in
     rw (p.1, p.2) (or_memory c.in_err-minor.ensures (λ h. (h.0.0, class_of h.0.1 h.0.2 [] 0 0 0 [] [] [] [], stops _ h.1)))
 
-pub pool_at-requires : goal.pool_at-requires
-pool_at-requires c =
+pub pool_at-requires-clause-within : goal.pool_at-requires-clause-within
+pool_at-requires-clause-within c =
     let within : 0 ≤ length c.args.bytes.now = omega arith in
     comes_within within c.in_ok-minor.ensures
 

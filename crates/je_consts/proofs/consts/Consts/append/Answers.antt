@@ -7,5 +7,5 @@ invariant_of-self c =
     let old = c.self.inside.tail.items in
     let names = rw (← c.self.view_is) at c.requires.names in
     let room = rw (← c.self.view_is) at c.requires.room in
-    let pool = IsPool-grown c.grow.result base old c.grow.new.places.items c.args.entry c.self.invariant.0 c.requires.fits names room c.grow.ensures.ok c.grow.ensures.err in
-    (pool, c.self.invariant.1, c.grow.ensures.index)
+    let pool = IsPool-grown c.grow.result base old c.grow.new.places.items c.args.entry c.self.invariant.1 c.requires.fits names room c.grow.ensures.ok c.grow.ensures.err in
+    (c.self.invariant.0, pool, c.self.invariant.2, c.grow.ensures.index)

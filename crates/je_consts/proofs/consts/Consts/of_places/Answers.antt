@@ -6,4 +6,4 @@ use Rattle.je_consts.proofs.consts.Consts.of_places.Goals as goal
 pub invariant_of-result : goal.invariant_of-result
 invariant_of-result c =
     let is : c.in_ok-base.base.value.items ++ c.new-2.result.items ≡ c.args.places.items = rw (c.in_ok-base.ensures.ok, c.new-2.ensures.items) (append-nil c.args.places.items) in
-    (subst IsPool (sym is) c.requires, tt, tt)
+    (rw c.in_ok-base.ensures.ok c.requires.spelled, subst IsPool (sym is) c.requires.pool, tt, tt)

@@ -94,7 +94,7 @@ returns-clause-edited c =
     let instrs = c.from_vec.ensures ∙ c.in_ok-instrs.ensures ∙ ap (λ l. new_instrs l c.as_slice-4.result.now) c.as_slice-5.ensures ∙ ap (new_instrs c.in_ok-chosen.chosen) c.as_slice-4.ensures in
     let all = spliced_edited one laws opcodes c.args.class.now c.args.plan.now e.at e.code c.in_ok-chosen.chosen c.in_ok-editable.ensures.found choices some c.in_ok-bytes.bytes.items _ c.in_ok-bytes.ensures instrs refl refl in
     subst (λ n. IsPlanEdit (plan_edit c.args.plan.now c.args.class.now c.set_method_attribute.new.self n)) count_is
-    (rw (c.set_method_attribute.ensures, c.from_vec-2.ensures) all)
+    (rw (c.set_method_attribute.ensures, c.in_ok-run.ensures) all)
 
 pub returns-clause-form : goal.returns-clause-form
 returns-clause-form c =

@@ -7,13 +7,13 @@ use Rattle.je_session.proofs.session.prepare.prepare.Goals as goal
 pub returns-in_err-class-clause-stopped : goal.returns-in_err-class-clause-stopped
 returns-in_err-class-clause-stopped g c =
     let p = err_from_is_err_and c.from_residual-in_err-class.result c.from_residual-in_err-class.ensures.1 in
-    rw (p.1, p.2) (stopped_at_bytes _ _ c.in_ok-script.script c.in_ok-bytes.bytes.items _ c.in_ok-script.ensures.found (rw (← c.read_script.ensures.contents) c.in_ok-bytes.ensures.found) (rw (← c.deref.ensures.value) c.in_err-class.ensures.stopped))
+    rw (p.1, p.2) (stopped_at_bytes _ _ c.in_ok-script.script c.in_ok-bytes.bytes _ c.in_ok-script.ensures.found (rw (← c.read_script.ensures.contents) c.in_ok-bytes.ensures.found) c.in_err-class.ensures.stopped)
 
 pub returns-in_err-matched-clause-stopped : goal.returns-in_err-matched-clause-stopped
 returns-in_err-matched-clause-stopped g c =
     let p = err_from_is_err_and c.from_residual-in_err-matched.result c.from_residual-in_err-matched.ensures.1 in
-    rw (p.1, p.2) (stopped_at_bytes _ _ c.in_ok-script.script c.in_ok-bytes.bytes.items _ c.in_ok-script.ensures.found (rw (← c.read_script.ensures.contents) c.in_ok-bytes.ensures.found)
-    (stopped_at_method c.in_ok-script.script c.in_ok-bytes.bytes.items c.in_ok-class.class _ (rw (← c.deref.ensures.value) c.in_ok-class.ensures.found) c.in_err-matched.ensures.stopped))
+    rw (p.1, p.2) (stopped_at_bytes _ _ c.in_ok-script.script c.in_ok-bytes.bytes _ c.in_ok-script.ensures.found (rw (← c.read_script.ensures.contents) c.in_ok-bytes.ensures.found)
+    (stopped_at_method c.in_ok-script.script c.in_ok-bytes.bytes c.in_ok-class.class _ c.in_ok-class.ensures.found c.in_err-matched.ensures.stopped))
 
 pub returns-in_err-matched-clause-no_line : goal.returns-in_err-matched-clause-no_line
 returns-in_err-matched-clause-no_line g c =
@@ -22,9 +22,9 @@ returns-in_err-matched-clause-no_line g c =
 
 pub returns-clause-made : goal.returns-clause-made
 returns-clause-made g c =
-    let form = class_form c.in_ok-script.script c.in_ok-bytes.bytes.items c.in_ok-class.class (rw (← c.deref.ensures.value) c.in_ok-class.ensures.found) c.in_ok-matched.ensures.form in
+    let form = class_form c.in_ok-script.script c.in_ok-bytes.bytes c.in_ok-class.class c.in_ok-class.ensures.found c.in_ok-matched.ensures.form in
     if_ok_both c.make.result c.make.ensures.bytes c.make.ensures.lines (λ made spelled lines.
-    prepared _ _ c.in_ok-bytes.bytes.items c.in_ok-script.script c.in_ok-class.class _ c.in_ok-matched.matched made c.in_ok-script.ensures.line c.in_ok-script.ensures.found (rw (← c.read_script.ensures.contents) c.in_ok-bytes.ensures.found) form c.in_ok-matched.ensures.edited spelled lines)
+    prepared _ _ c.in_ok-bytes.bytes c.in_ok-script.script c.in_ok-class.class _ c.in_ok-matched.matched made c.in_ok-script.ensures.line c.in_ok-script.ensures.found (rw (← c.read_script.ensures.contents) c.in_ok-bytes.ensures.found) form c.in_ok-matched.ensures.edited spelled lines)
 
 pub returns-clause-stopped : goal.returns-clause-stopped
 returns-clause-stopped g c = if_err_then c.make.result c.make.ensures.memory (λ stop tells. (NoMemory, tt, tells))

@@ -1,0 +1,10 @@
+use Rattle.je_desc.specs.Names.{IsClassName}
+use Rattle.je_instr.specs.Content.{content_at}
+use Rattle.je_instr.proofs.ConstLemmas.{class_in, class_no}
+use Rattle.je_instr.proofs.calls.is_object_class.Goals as goal
+
+pub returns-in-Some : goal.returns-in-Some
+returns-in-Some c = class_in (content_at c.args.consts.now c.args.index) (IsClassName) c.in-Some.text.now c.is_class_name.result c.in-Some.ensures (rw c.bytes.ensures.bytes at c.is_class_name.ensures)
+
+pub returns-in-None : goal.returns-in-None
+returns-in-None c = (λ h. absurd cc, λ k. absurd (class_no (content_at c.args.consts.now c.args.index) (IsClassName) c.in-None.ensures k))
