@@ -1,6 +1,9 @@
 use je_base::Run;
 use je_consts::Consts;
-use je_instr::{Case, CodeFault, Decoded, Handler, Instr, RawHandler, decode_code, opcodes as op};
+use je_instr::{
+    Assembled, Case, CodeFault, Decoded, Handler, Instr, RawHandler, SizeFault, assemble, decode,
+    decoded_again, opcodes as op,
+};
 use std::test::*;
 
 /// A pool without entries.
@@ -29,7 +32,7 @@ fn program(
     table: &[RawHandler],
 ) -> Result<Decoded, Fail> {
     let consts = pool(rt, consts)?;
-    match decode_code(rt.alloc(), code, table, &consts) {
+    match decode(rt.alloc(), code, table, &consts) {
         Ok(decoded) => Ok(decoded),
         Err(fault) => Err(format!(in rt.alloc(); "{fault:?}")?.into()),
     }
@@ -42,7 +45,7 @@ fn fault(
     table: &[RawHandler],
 ) -> Result<CodeFault, Fail> {
     let consts = pool(rt, consts)?;
-    match decode_code(rt.alloc(), code, table, &consts) {
+    match decode(rt.alloc(), code, table, &consts) {
         Ok(_) => Err("no fault".into()),
         Err(fault) => Ok(fault),
     }
@@ -320,5 +323,173 @@ fn constants(rt: HostRuntime) -> Result<(), Fail> {
             CodeFault::BadOperand(0)
         );
     }
+    Ok(())
+}
+
+#[test]
+fn sizes(rt: HostRuntime) -> Result<(), Fail> {
+    let consts = pool(&rt, EMPTY)?;
+    let rows: [(u8, u8, u8); 25] = [
+        (0, 15, 1),
+        (16, 16, 2),
+        (17, 17, 3),
+        (18, 18, 2),
+        (19, 20, 3),
+        (21, 25, 2),
+        (26, 53, 1),
+        (54, 58, 2),
+        (59, 131, 1),
+        (132, 132, 3),
+        (133, 152, 1),
+        (153, 168, 3),
+        (169, 169, 2),
+        (172, 177, 1),
+        (178, 184, 3),
+        (185, 186, 5),
+        (187, 187, 3),
+        (188, 188, 2),
+        (189, 189, 3),
+        (190, 191, 1),
+        (192, 193, 3),
+        (194, 195, 1),
+        (197, 197, 4),
+        (198, 199, 3),
+        (200, 201, 5),
+    ];
+    for (first, last, size) in rows {
+        for opcode in first..=last {
+            let mut code = vec![in rt.alloc(); opcode]?;
+            for _ in 1..size {
+                let cut = decode(rt.alloc(), &code, &[], &consts);
+                assert!(rt; matches!(cut, Err(CodeFault::CutShort(0))), "of {opcode}");
+                code.push(0)?;
+            }
+            let whole = decode(rt.alloc(), &code, &[], &consts);
+            assert!(rt;
+                !matches!(whole, Err(CodeFault::CutShort(_))),
+                "of {opcode}"
+            );
+        }
+    }
+    Ok(())
+}
+
+/// What code is assembled to, once it is decoded.
+fn again(rt: &HostRuntime, code: &[u8]) -> Result<Result<Assembled, SizeFault>, Fail> {
+    let consts = pool(rt, EMPTY)?;
+    let Ok(decoded) = decode(rt.alloc(), code, &[], &consts) else {
+        return Err("no program".into());
+    };
+    decoded_again();
+    Ok(assemble(rt.alloc(), &decoded.program))
+}
+
+fn bytes_again(rt: &HostRuntime, code: &[u8]) -> Result<Assembled, Fail> {
+    match again(rt, code)? {
+        Ok(assembled) => Ok(assembled),
+        Err(_) => Err("it has a size".into()),
+    }
+}
+
+/// So many nops between two pieces of code.
+fn nops_between(
+    rt: &HostRuntime,
+    front: &[u8],
+    count: usize,
+    behind: &[u8],
+) -> Result<Vec<u8>, Fail> {
+    let mut code = Vec::new(rt.alloc());
+    code.extend_from_slice(front)?;
+    for _ in 0..count {
+        code.push(0)?;
+    }
+    code.extend_from_slice(behind)?;
+    Ok(code)
+}
+
+#[test]
+fn shortest_forms(rt: HostRuntime) -> Result<(), Fail> {
+    let rows: [(&[u8], &[u8]); 10] = [
+        (&[0xc4, 0x15, 0x00, 0xff], &[0x15, 0xff]),
+        (&[0xc4, 0x15, 0x01, 0x00], &[0xc4, 0x15, 0x01, 0x00]),
+        (&[0x15, 0x03], &[0x1d]),
+        (&[0xc4, 0x3a, 0x00, 0x00], &[0x4b]),
+        (&[0x11, 0xff, 0xff], &[0x02]),
+        (&[0x11, 0x00, 0x06], &[0x10, 0x06]),
+        (&[0x11, 0xff, 0x80], &[0x10, 0x80]),
+        (&[0x11, 0x00, 0x80], &[0x11, 0x00, 0x80]),
+        (&[0xc4, 0x84, 0x00, 0xff, 0x00, 0x7f], &[0x84, 0xff, 0x7f]),
+        (
+            &[0xc4, 0x84, 0x00, 0x01, 0x00, 0x80],
+            &[0xc4, 0x84, 0x00, 0x01, 0x00, 0x80],
+        ),
+    ];
+    for (long, short) in rows {
+        let assembled = bytes_again(&rt, long)?;
+        assert_eq!(rt; assembled.code.as_slice(), short);
+    }
+    Ok(())
+}
+
+#[test]
+fn switch_behind_nops(rt: HostRuntime) -> Result<(), Fail> {
+    let switches: [(&[u8], &[u8], u32); 4] = [
+        (
+            &[
+                0xaa, 9, 9, 0, 0, 0, 19, 0, 0, 0, 0, 0, 0, 0, 0, 0, 0, 0, 19, 0xb1,
+            ],
+            &[
+                0xaa, 0, 0, 0, 0, 0, 19, 0, 0, 0, 0, 0, 0, 0, 0, 0, 0, 0, 19, 0xb1,
+            ],
+            21,
+        ),
+        (
+            &[
+                0xaa, 9, 0, 0, 0, 18, 0, 0, 0, 0, 0, 0, 0, 0, 0, 0, 0, 18, 0xb1,
+            ],
+            &[
+                0xaa, 0, 0, 0, 0, 18, 0, 0, 0, 0, 0, 0, 0, 0, 0, 0, 0, 18, 0xb1,
+            ],
+            21,
+        ),
+        (
+            &[0xaa, 0, 0, 0, 17, 0, 0, 0, 0, 0, 0, 0, 0, 0, 0, 0, 17, 0xb1],
+            &[0xaa, 0, 0, 0, 17, 0, 0, 0, 0, 0, 0, 0, 0, 0, 0, 0, 17, 0xb1],
+            21,
+        ),
+        (
+            &[
+                0xaa, 9, 9, 9, 0, 0, 0, 20, 0, 0, 0, 0, 0, 0, 0, 0, 0, 0, 0, 20, 0xb1,
+            ],
+            &[
+                0xaa, 0, 0, 0, 0, 0, 0, 20, 0, 0, 0, 0, 0, 0, 0, 0, 0, 0, 0, 20, 0xb1,
+            ],
+            25,
+        ),
+    ];
+    for (count, (read, written, size)) in switches.iter().enumerate() {
+        let code = nops_between(&rt, &[0x03], count, read)?;
+        let assembled = bytes_again(&rt, &code)?;
+        let expected = nops_between(&rt, &[0x03], count, written)?;
+        assert_eq!(rt; assembled.code.as_slice(), expected.as_slice());
+        assert_eq!(rt; assembled.offsets.as_slice().last(), Some(size));
+    }
+    Ok(())
+}
+
+#[test]
+fn too_long_and_too_far(rt: HostRuntime) -> Result<(), Fail> {
+    let longest = nops_between(&rt, &[], 65534, &[0xb1])?;
+    let assembled = bytes_again(&rt, &longest)?;
+    assert_eq!(rt; assembled.code.len(), 65535);
+    let longer = nops_between(&rt, &[], 65535, &[0xb1])?;
+    assert!(rt; matches!(again(&rt, &longer)?, Err(SizeFault::CodeTooLong(65536))));
+    // A goto_w over 32,764 nops, and over one more.
+    let near = nops_between(&rt, &[0xc8, 0, 0, 0x80, 0x01], 32764, &[0xb1])?;
+    let assembled = bytes_again(&rt, &near)?;
+    assert_eq!(rt; assembled.code.len(), 32768);
+    assert!(rt; assembled.code.as_slice().starts_with(&[0xa7, 0x7f, 0xff]));
+    let far = nops_between(&rt, &[0xc8, 0, 0, 0x80, 0x02], 32765, &[0xb1])?;
+    assert!(rt; matches!(again(&rt, &far)?, Err(SizeFault::JumpTooFar(0))));
     Ok(())
 }

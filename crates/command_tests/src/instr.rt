@@ -1,7 +1,7 @@
 use je_base::Run;
 use je_consts::Consts;
 use je_instr::{
-    Case, CodeStop, Instr, called_method, decode, encode, opcodes, read_code, write_code,
+    Case, CodeStop, Instr, called_method, decode_plain, encode, opcodes, read_code, write_code,
 };
 use sqlite_items::Items;
 use std::test::*;
@@ -13,7 +13,7 @@ const ATTRIBUTE: [u8; 16] = [0, 0, 0, 0, 0, 0, 0, 4, 0xb8, 0x00, 0x0a, 0xb1, 0, 
 
 #[test]
 fn call_and_return(rt: HostRuntime) -> Result<(), Fail> {
-    let instrs = decode(rt.alloc(), &CODE)
+    let instrs = decode_plain(rt.alloc(), &CODE)
         .ok()
         .ok_or("the code is of the forms read")?;
     assert!(rt;
@@ -47,7 +47,7 @@ fn attribute(rt: HostRuntime) -> Result<(), Fail> {
 fn not_yet(rt: HostRuntime) {
     let forms: [&[u8]; 3] = [&[0xa8], &[0xff], &[0xb8, 0x00]];
     for code in forms {
-        assert!(rt; matches!(decode(rt.alloc(), code), Err(CodeStop::NotYet)));
+        assert!(rt; matches!(decode_plain(rt.alloc(), code), Err(CodeStop::NotYet)));
     }
 }
 

@@ -14,7 +14,9 @@ const INTERFACE_AND_FIELD: &[u8] =
 /// One attribute of no bytes.
 const ATTRIBUTE: &[u8] = b"\x00\x01\x00\x07\x00\x00\x00\x00";
 
-fn run_of(rt: &HostRuntime, bytes: &[u8]) -> Result<Run, Fail> {
+fn run_of(rt: &HostRuntime, bytes: &[u8]) -> Result<Run, Fail>
+    ensures { IfOk result (λ run. run ≡ bytes.now) }
+{
     let copy = Vec::from_slice(rt.alloc(), bytes)?;
     Ok(Run::of_vec(rt.alloc(), copy)?)
 }

@@ -1,13 +1,11 @@
 -- What constants are allowed to say, by what was looked up.
-use Rattle.std.proofs.Common.{◌≡◌, ℕ, ◌+◌, ◌-◌, ◌<◌, arith, Bool, true, false, List, Option, Some, None, refl, sym, ap, subst, ◌∙◌, ◌⊎◌, ◌↔◌, inl, inr}
+use Rattle.std.proofs.Common.{◌≡◌, ℕ, ◌-◌, ◌<◌, arith, Bool, true, List, Option, Some, None, refl, sym, ap, subst, ◌∙◌, ◌⊎◌, ◌↔◌, inl, inr}
 use Rattle.std.specs.Prelude.{IsTrue}
-use Rattle.je_consts.specs.declared.place.Place.{Place}
 use Rattle.je_machine.specs.Content.{MemberTag, Content, Utf8Text, Integer, Float, LongInteger, Double, Class, Str, Member, NameAndType, MethodHandle, MethodType, InvokeDynamic}
-use Rattle.je_instr.specs.Content.{content_at, Names}
 use Rattle.std.specs.Prelude.{◌≢◌, IfSome, IfNone}
 use Rattle.je_desc.specs.Descriptor.{MethodTypes, units_of_params}
 use Rattle.je_machine.specs.Content as tags
-use Rattle.je_machine.specs.Action.{Sort, Virtual, Special, Static, Interface, Dynamic}
+use Rattle.je_machine.specs.Action.{Sort, Interface, Dynamic}
 use Rattle.je_instr.specs.Allowed.{IsClass, IsClassText, IsField, AllowsField, IsMethod, IsDynamic, Calls, AllowsCall, AllowsCounted, AllowsLdc, AllowsLdc2}
 use Rattle.je_instr.proofs.DescriptorLemmas.{one_method}
 use Rattle.je_instr.specs.Views.{of_class, of_any, of_dynamic, is_loaded, is_wide, CallsWith}

@@ -1,9 +1,9 @@
 -- What stands at an offset ends behind it, and within the code.
-use Rattle.std.proofs.Common.{◌≡◌, ℕ, ◌+◌, ◌*◌, ◌%◌, ◌^◌, ◌<◌, ◌≤◌, Bool, true, false, cond, List, length, Result, Ok, Err, refl, subst, arith}
+use Rattle.std.proofs.Common.{◌≡◌, ℕ, ◌+◌, ◌*◌, ◌^◌, ◌<◌, ◌≤◌, Bool, true, false, cond, List, length, Result, Ok, Err, refl, subst, arith}
 use Rattle.std.specs.Prelude.{nat_lt, nat_eq, nat_le, int_lt, ◌||◌}
 use Rattle.std.proofs.lemmas.Bool.{ltb-false}
 use Rattle.je_instr.specs.declared.fault.CodeFault.{CodeFault}
-use Rattle.je_instr.specs.declared.fault.CodeFault.TheVariants.{BadOpcode, CutShort, BadOperand, Jsr}
+use Rattle.je_instr.specs.declared.fault.CodeFault.TheVariants.{CutShort}
 use Rattle.je_instr.specs.declared.instr.Instr.{Instr}
 use Rattle.je_instr.specs.declared.instr.Instr.TheVariants.{Local, Iinc, TableSwitch, LookupSwitch}
 use Rattle.je_instr.specs.declared.opcodes.TheConstants as op

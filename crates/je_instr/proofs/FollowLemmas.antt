@@ -1,8 +1,7 @@
 -- Instructions that stand one behind the other: one more behind them, and that no others stand there.
-use Rattle.std.proofs.Common.{◌≡◌, ℕ, zero, suc, ◌+◌, ◌<◌, ◌≤◌, List, [], ◌∷◌, ◌++◌, length, Result, Ok, Err, Some, refl, sym, ap, subst, ◌∙◌, arith, ◌⊎◌, inl, inr, slice_get}
+use Rattle.std.proofs.Common.{◌≡◌, ℕ, zero, suc, ◌+◌, ◌<◌, ◌≤◌, List, [], ◌∷◌, ◌++◌, length, Ok, Err, refl, sym, ap, subst, ◌∙◌, arith, inl, inr}
 use Rattle.je_consts.specs.declared.place.Place.{Place}
 use Rattle.je_instr.specs.declared.fault.CodeFault.{CodeFault}
-use Rattle.je_instr.specs.declared.fault.CodeFault.TheVariants.{BadOperand}
 use Rattle.je_instr.specs.declared.instr.Instr.{Instr}
 use Rattle.je_instr.specs.Allowed.{IsAllowed}
 use Rattle.je_instr.specs.Forms.{Read, form_at}

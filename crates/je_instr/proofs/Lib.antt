@@ -20,4 +20,12 @@ pub mod TestLemmas
 pub mod TextLemmas
 pub mod ConstLemmas
 pub mod DecodeLemmas
+pub mod LayoutLemmas
+pub mod SizeLemmas
+pub mod HoldLemmas
+pub mod ShortLemmas
+pub mod SwitchLemmas
+pub mod AssembleLemmas
 pub mod TotalLemmas
+pub mod NumberLemmas
+pub mod AgainLemmas

@@ -1,8 +1,8 @@
 -- The instruction that begins at an offset, by the index that stands there.
-use Rattle.std.proofs.Common.{◌≡◌, ℕ, zero, suc, ◌+◌, ◌<◌, List, length, get_or, set, Option, Some, refl, sym, ap, subst, ◌∙◌, ◌⊎◌, inl, inr, arith, slice_get}
+use Rattle.std.proofs.Common.{◌≡◌, ℕ, ◌<◌, List, length, get_or, Some, ap, ◌∙◌, slice_get}
 use Rattle.std.proofs.lemmas.Option.{slice_get_within, get_or_from_slice_get, slice_get-get_or}
 use Rattle.je_instr.specs.Decoding.{Begins}
-use Rattle.je_instr.specs.Indexing.{Places, AreApart}
+use Rattle.je_instr.specs.Indexing.{Places}
 
 -- what is known of the index of the instruction at an offset
 pub record IsPlaced (starts places : List ℕ) (offset k : ℕ) : Type 0 where

@@ -1,5 +1,5 @@
 -- Which opcodes stand in a table: each one below 256 is tried.
-use Rattle.std.proofs.Common.{◌≡◌, ℕ, zero, suc, ◌+◌, ◌<◌, ◌≤◌, Bool, true, false, ◌&&◌, List, Option, Some, None, is_some, refl, sym, ap, subst, ◌∙◌, ◌↔◌, arith}
+use Rattle.std.proofs.Common.{◌≡◌, ℕ, ◌<◌, ◌≤◌, Bool, true, false, ◌&&◌, Option, Some, is_some, refl, sym, ap, subst, ◌∙◌, ◌↔◌, arith}
 use Rattle.std.specs.Prelude.{IsTrue, IsSome}
 use Rattle.je_instr.specs.Opcodes.{beside, simple_operation, local_operations, conditions, field_actions, sorts, array_types}
 use Rattle.std.specs.Prelude.{nat_le}

@@ -1,12 +1,11 @@
 -- What texts of classes and of methods begin and end with.
-use Rattle.std.proofs.Common.{◌≡◌, ℕ, zero, suc, ◌+◌, ◌-◌, ◌<◌, ◌≤◌, Bool, true, false, List, [], ◌∷◌, ◌++◌, length, get_or, Option, Some, None, refl, sym, ap, subst, ◌∙◌, ◌⊎◌, ◌↔◌, inl, inr, arith, length-append}
-use Rattle.std.specs.Prelude.{IsTrue}
+use Rattle.std.proofs.Common.{◌≡◌, ℕ, suc, ◌+◌, ◌-◌, ◌<◌, ◌≤◌, Bool, true, false, List, [], ◌∷◌, ◌++◌, length, get_or, Option, Some, None, refl, sym, ap, subst, ◌∙◌, ◌⊎◌, inl, inr, arith, length-append}
 use Rattle.std.specs.List.{flat_map}
 use Rattle.std.proofs.lemmas.List.{get_or-append-add}
 use Rattle.je_desc.specs.Names.{IsClassName}
 use Rattle.je_desc.specs.FieldType.{BaseType, Byte, Char, Double, Float, Int, Long, Short, Boolean, FieldType, Base, Object, Array, dimensions, letter, descriptor}
 use Rattle.je_desc.specs.Descriptor.{MethodTypes, SpellsField, FieldDescriptor, SpellsMethod, return_descriptor, method_descriptor}
-use Rattle.je_instr.specs.Allowed.{NamesType, IsClassText, IsMadeOf, HasDimensions}
+use Rattle.je_instr.specs.Allowed.{IsClassText, IsMadeOf, HasDimensions}
 use Rattle.je_instr.specs.OpcodeTests.{brackets, IsArrayText}
 
 pub refuted : (b : Bool) → b ≡ false → b ≡ true → ⊥

@@ -2,7 +2,7 @@
 -- so.
 use Rattle.std.specs.Prelude.{ℕ, zero, suc, ◌+◌, ◌-◌, ◌*◌, ◌/◌, ◌%◌, ◌^◌, ◌||◌, ◌&&◌, ℤ, pos, ◌-ℤ◌}
 use Rattle.std.specs.Prelude.{int_lt, unsigned_abs, Bool, List, [], ◌∷◌, length, Result, Ok, Err}
-use Rattle.std.specs.Prelude.{nat_eq, nat_lt, nat_le, ◌==◌, if◌then◌else◌, slice_index}
+use Rattle.std.specs.Prelude.{nat_eq, nat_lt, nat_le, if◌then◌else◌, slice_index}
 use Rattle.std.specs.Int.{w8, w16, w32, from_be_bytes, cast_signed, cast_unsigned}
 use Rattle.je_instr.specs.declared.fault.CodeFault.{CodeFault}
 use Rattle.je_instr.specs.declared.fault.CodeFault.TheVariants.{BadOpcode, CutShort, BadOperand}

@@ -1,5 +1,5 @@
 -- Serves private functions: which instruction begins at an offset.
-use Rattle.std.specs.Prelude.{◌≡◌, ℕ, List, Some, slice_get}
+use Rattle.std.specs.Prelude.{◌≡◌, ℕ, List}
 use Rattle.je_instr.specs.Decoding.{Begins}
 
 -- at the offset of each instruction stands its index

@@ -16,5 +16,8 @@ pub mod FormReading
 pub mod Decoding
 pub mod Walking
 pub mod Indexing
+pub mod Shortest
+pub mod Assembling
+pub mod Offsets
 pub mod OpcodeTests
 pub mod Views

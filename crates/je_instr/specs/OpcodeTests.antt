@@ -1,5 +1,5 @@
 -- Serves private functions: which opcodes stand in a table, and how texts are tested.
-use Rattle.std.specs.Prelude.{◌≡◌, ℕ, zero, suc, Bool, ◌||◌, nat_eq, List, [], ◌∷◌, ◌==◌}
+use Rattle.std.specs.Prelude.{◌≡◌, ℕ, zero, suc, Bool, ◌||◌, List, [], ◌∷◌, ◌==◌}
 use Rattle.std.specs.Prelude.{if◌then◌else◌}
 use Rattle.je_desc.specs.Descriptor.{FieldDescriptor}
 use Rattle.je_instr.specs.Rows.{is_within}

@@ -8,7 +8,7 @@ ghost use Rattle.je_instr.specs.Plain.{plain_code};
 ghost use Rattle.je_instr.specs.Reading.{IsHead, head_view};
 ghost use Rattle.je_instr.specs.Reading as parts;
 
-use crate::decoding::decode;
+use crate::decoding::decode_plain;
 use crate::encoding::encode;
 use crate::instr::Instr;
 use crate::stop::CodeStop;
@@ -87,7 +87,7 @@ pub fn read_code(alloc: Global, info: &[u8]) -> Result<MethodCode, CodeStop>
     if !are_empty_tables(head.tables) {
         return Err(CodeStop::NotYet);
     }
-    let instrs = decode(alloc, head.code)?;
+    let instrs = decode_plain(alloc, head.code)?;
     Ok(MethodCode {
         max_stack: head.max_stack,
         max_locals: head.max_locals,

@@ -1,11 +1,13 @@
 //! From bytes and an exception table to a program (JVMS 4.7.3 and 6.5).
 
-ghost use Rattle.std.specs.Prelude.{◌≡◌, ℕ, ◌<◌, ◌^◌, ◌⊎◌, List, length, IfOk, IfErr, MatchResult};
+ghost use Rattle.std.specs.Prelude.{◌≡◌, ℕ, ◌<◌, ◌^◌, ◌++◌, ◌⊎◌, List, length, IfOk, IfErr, MatchResult};
 ghost use Rattle.je_consts.specs.declared.place.Place.{Place};
 ghost use Rattle.je_instr.specs.declared.fault.CodeFault.{CodeFault};
 ghost use Rattle.je_instr.specs.declared.program.Decoded.{Decoded};
 ghost use Rattle.je_instr.specs.declared.program.RawHandler.{RawHandler};
+ghost use Rattle.je_base.specs.Bytes.{u2, u4};
 ghost use Rattle.je_instr.specs.Decoding.{Decodes, FirstFault};
+ghost use Rattle.je_instr.specs.Forms.{u2_at, u4_at};
 
 use crate::entries::entries;
 use crate::fault::CodeFault;
@@ -63,7 +65,7 @@ fn decoded(
 /// of the table of which the start or the target is no instruction's, the end neither that nor the
 /// end of the code, the start not below the end, or the class neither 0 nor one that is no array.
 /// `Memory` comes where memory runs out, and for code of 2 GiB and more.
-pub fn decode_code(
+pub fn decode(
     alloc: Global,
     code: &[u8],
     table: &[RawHandler],
@@ -102,4 +104,12 @@ pub fn one_decoding()
     ensures one_fault { (consts : List Place) (code : List ℕ) (table : List RawHandler)
         (f g : CodeFault) →
         FirstFault consts code table f → FirstFault consts code table g → f ≡ g }
+{}
+
+/// The number that is read at an offset is the one whose bytes stand there.
+pub fn numbers_mean()
+    ensures two { (front rest : List ℕ) (n : ℕ) → n < 2 ^ 16
+        → u2_at (front ++ (u2 n ++ rest)) (length front) ≡ n }
+    ensures four { (front rest : List ℕ) (n : ℕ) → n < 2 ^ 32
+        → u4_at (front ++ (u4 n ++ rest)) (length front) ≡ n }
 {}

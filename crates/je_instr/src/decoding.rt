@@ -32,7 +32,7 @@ fn instr_at(bytes: &[u8]) -> Option<(Instr, &[u8])>
 ///
 /// `NotYet`: where an instruction should begin stands none that is read so far, or the last one is
 /// cut. `Memory`: there was not enough memory.
-pub fn decode(alloc: Global, code: &[u8]) -> Result<Vec<Instr>, CodeStop>
+pub fn decode_plain(alloc: Global, code: &[u8]) -> Result<Vec<Instr>, CodeStop>
     // What is decoded is spelled so.
     ensures found { IfOk result (λ v. code.now ≡ code_bytes v.items) }
     ensures fits { IfOk result (λ v. AllByRecursion FitsInstr v.items) }

@@ -5,7 +5,10 @@
 //! and each instruction with operands that are allowed is one operation.
 #![tactic(auto)]
 
+mod again;
 mod allowed;
+mod assembled;
+mod assembler;
 mod callee;
 mod calls;
 mod code;
@@ -17,21 +20,27 @@ mod fault;
 mod form;
 mod instr;
 mod laws;
+mod layout;
+mod near;
 pub mod opcodes;
 mod operands;
 mod program;
 mod programs;
 mod ranges;
+mod shortest;
 mod stop;
 mod table;
 mod targets;
 mod texts;
 mod walk;
 
+pub use again::decoded_again;
+pub use assembled::{Assembled, SizeFault};
+pub use assembler::assemble;
 pub use callee::called_method;
 pub use code::{MethodCode, read_code, write_code};
-pub use decoder::{decode_code, one_decoding};
-pub use decoding::decode;
+pub use decoder::{decode, numbers_mean, one_decoding};
+pub use decoding::decode_plain;
 pub use encoding::encode;
 pub use fault::CodeFault;
 pub use instr::{Case, Instr, InstrIndex, Opcode, Slot};

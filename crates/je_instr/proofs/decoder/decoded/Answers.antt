@@ -1,4 +1,4 @@
-use Rattle.std.proofs.Common.{◌≡◌, ◌<◌, ◌^◌, ◌∙◌, length, sym, arith}
+use Rattle.std.proofs.Common.{length, arith}
 use Rattle.std.proofs.lemmas.Result.{err_from_is_err_and}
 use Rattle.je_instr.proofs.FollowLemmas.{begins_within, as_many, few}
 use Rattle.je_instr.proofs.DecodeLemmas.{starts_apart, stops_fault, nowhere_fault, no_entry_fault, decoded_is}

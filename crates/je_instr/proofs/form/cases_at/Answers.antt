@@ -1,4 +1,4 @@
-use Rattle.std.proofs.Common.{arith, rules}
+use Rattle.std.proofs.Common.{arith}
 use Rattle.je_instr.proofs.FormLemmas.{cases_step}
 use Rattle.je_instr.proofs.form.cases_at.Goals as goal
 

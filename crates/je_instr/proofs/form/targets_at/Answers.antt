@@ -1,4 +1,4 @@
-use Rattle.std.proofs.Common.{arith, rules}
+use Rattle.std.proofs.Common.{arith}
 use Rattle.je_instr.proofs.FormLemmas.{targets_step}
 use Rattle.je_instr.proofs.form.targets_at.Goals as goal
 

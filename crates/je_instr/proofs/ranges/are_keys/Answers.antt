@@ -1,5 +1,5 @@
 use Rattle.std.proofs.lemmas.Int.{ints}
-use Rattle.std.proofs.Common.{arith, ◌≤◌, ℤ, pos, ◌+ℤ◌, ◌-ℤ◌}
+use Rattle.std.proofs.Common.{arith, ◌≤◌, pos, ◌+ℤ◌, ◌-ℤ◌}
 use Rattle.je_instr.proofs.ranges.are_keys.Goals as goal
 
 pub returns : goal.returns

@@ -1,7 +1,7 @@
 use Rattle.std.proofs.Common.{◌≡◌, [], rules}
 use Rattle.std.proofs.lemmas.List.{nil_from_length}
 use Rattle.je_instr.specs.Decoding.{BeginsCase}
-use Rattle.je_instr.proofs.ZipLemmas.{Reached, reached_all}
+use Rattle.je_instr.proofs.ZipLemmas.{reached_all}
 use Rattle.je_instr.proofs.targets.cases_in.Goals as goal
 
 pub returns-clause-some : goal.returns-clause-some

@@ -1,4 +1,4 @@
-use Rattle.std.proofs.Common.{◌≡◌, ◌∙◌, sym, ap, get_or, arith}
+use Rattle.std.proofs.Common.{◌∙◌, ap, get_or, arith}
 use Rattle.je_instr.proofs.PlaceLemmas.{placed, begins}
 use Rattle.je_instr.proofs.targets.place_of.Goals as goal
 

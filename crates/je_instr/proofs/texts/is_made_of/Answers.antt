@@ -1,4 +1,4 @@
-use Rattle.std.proofs.Common.{length, ◌<◌, ◌≤◌, arith}
+use Rattle.std.proofs.Common.{length, ◌≤◌, arith}
 use Rattle.std.proofs.lemmas.Bool.{leb-true, le-leb}
 use Rattle.je_instr.specs.OpcodeTests.{brackets}
 use Rattle.je_instr.proofs.TextLemmas.{made_of_class, class_made_of, made_of_array, array_made_of, refuted}

@@ -1,5 +1,4 @@
-use Rattle.std.proofs.Common.{◌≡◌, ◌-◌, refl, length, get_or}
-use Rattle.std.specs.Prelude.{IsTrue, nat_eq}
+use Rattle.std.proofs.Common.{◌-◌, refl, length, get_or}
 use Rattle.std.proofs.lemmas.Bool.{eqb-true}
 use Rattle.je_instr.proofs.TextLemmas.{nothing_is}
 use Rattle.je_instr.proofs.texts.returns_nothing.Goals as goal

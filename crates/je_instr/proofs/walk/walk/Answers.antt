@@ -1,4 +1,4 @@
-use Rattle.std.proofs.Common.{arith, ◌-◌, ◌<◌, length}
+use Rattle.std.proofs.Common.{arith}
 use Rattle.je_instr.proofs.EndLemmas.{form_within}
 use Rattle.je_instr.proofs.FollowLemmas.{follow_more}
 use Rattle.je_instr.proofs.walk.walk.Goals as goal
