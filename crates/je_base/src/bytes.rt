@@ -2,7 +2,8 @@
 //!
 //! Numbers are big-endian. Offsets are in bytes, from the start.
 
-ghost use Rattle.std.specs.Prelude.{◌≡◌, ◌+◌, ◌++◌, ◌≤◌, drop, length, slice_range, IfOk, IfErr, OnOk, OnErr};
+ghost use Rattle.std.specs.Prelude.{◌≡◌, ◌+◌, ◌++◌, ◌≤◌, drop, length, slice_range, IfOk, IfErr};
+ghost use Rattle.std.specs.Prelude.{OnOk, OnErr};
 ghost use Rattle.je_base.specs.Bytes.{u1, u2, u4, u8, IsThere, IsCut, OneReading};
 
 use crate::stop::Memory;

@@ -4,8 +4,10 @@ ghost use Rattle.std.specs.Prelude.{◌≡◌, ℕ, [], ◌∷◌, ◌++◌, IfO
 ghost use Rattle.std.specs.Option.{option_map};
 ghost use Rattle.std.specs.Str.{chars};
 ghost use Rattle.std.specs.Char.{IsScalar};
-ghost use Rattle.je_base.specs.Encoding.{unit, char_units, char_bytes, encoding, characters, decoded};
-ghost use Rattle.je_base.specs.Encoding.{IsDecoded, EncodesNone, EncodesOnly, BeginsNoUnit, BeginsNoChar};
+ghost use Rattle.je_base.specs.Encoding.{unit, char_units, char_bytes, encoding, characters};
+ghost use Rattle.je_base.specs.Encoding.{decoded};
+ghost use Rattle.je_base.specs.Encoding.{IsDecoded, EncodesNone, EncodesOnly, BeginsNoUnit};
+ghost use Rattle.je_base.specs.Encoding.{BeginsNoChar};
 
 use crate::stop::Memory;
 use std::alloc::Global;

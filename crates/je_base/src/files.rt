@@ -1,4 +1,5 @@
-ghost use Rattle.std.specs.Prelude.{◌≡◌, ℕ, ◌≤◌, List, Option, Some, vec_len, IfOk, IfSome, IsErrOf, OnOk, OnErr};
+ghost use Rattle.std.specs.Prelude.{◌≡◌, ℕ, ◌≤◌, List, Option, Some, vec_len, IfOk, IfSome};
+ghost use Rattle.std.specs.Prelude.{IsErrOf, OnOk, OnErr};
 ghost use Rattle.std.specs.Option.{option_map};
 ghost use Rattle.std.specs.FinMap.{insert};
 ghost use Rattle.je_base.specs.Count.{raised, HasFault};

@@ -1,6 +1,7 @@
 //! The files of the real file system.
 
-ghost use Rattle.std.specs.Prelude.{◌≡◌, ◌≢◌, ◌≤◌, None, vec_len, IfOk, IfErr, IfSome, IsErrOf, IsOkAnd, IsSomeAnd, OnOk, OnErr};
+ghost use Rattle.std.specs.Prelude.{◌≡◌, ◌≢◌, ◌≤◌, None, vec_len, IfOk, IfErr, IfSome, IsErrOf};
+ghost use Rattle.std.specs.Prelude.{IsOkAnd, IsSomeAnd, OnOk, OnErr};
 ghost use Rattle.std.specs.IoError.{error_kind};
 ghost use Rattle.je_base.specs.Count.{raised, HasFault};
 ghost use Rattle.std.specs.Io.KnownBytes.{Appends};

@@ -1,12 +1,14 @@
 //! Files in memory, which fail where they are told to.
 
-ghost use Rattle.std.specs.Prelude.{◌≡◌, ℕ, ◌≤◌, [], ◌∷◌, ◌++◌, List, Option, Some, map, take, vec_len, IfOk, IfSome, IsErrOf, IsTrue, OnOk, OnErr, ◌⊎◌, ◌↔◌};
+ghost use Rattle.std.specs.Prelude.{◌≡◌, ℕ, ◌≤◌, [], ◌∷◌, ◌++◌, List, Option, Some, map, take};
+ghost use Rattle.std.specs.Prelude.{vec_len, IfOk, IfSome, IsErrOf, IsTrue, OnOk, OnErr, ◌⊎◌, ◌↔◌};
 ghost use Rattle.std.specs.Option.{option_map};
 ghost use Rattle.std.specs.String.{string_bytes};
 ghost use Rattle.std.specs.FinMap.{get, insert};
 ghost use Rattle.je_base.specs.Count.{raised, HasFault};
 ghost use Rattle.je_base.specs.Files.{Contents, Tells, AsksAndCounts, KeepsOthers};
-ghost use Rattle.je_base.specs.MemFiles.{no_files, FailsNext, HasRoomFor, after_read, after_failed_read, after_write, after_failed_write};
+ghost use Rattle.je_base.specs.MemFiles.{no_files, FailsNext, HasRoomFor, after_read};
+ghost use Rattle.je_base.specs.MemFiles.{after_failed_read, after_write, after_failed_write};
 
 use crate::count::raised;
 use crate::files::Files;

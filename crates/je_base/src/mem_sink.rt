@@ -1,10 +1,12 @@
 //! A sink in memory, which fails where it is told to.
 
-ghost use Rattle.std.specs.Prelude.{◌≡◌, ℕ, ◌≤◌, [], ◌∷◌, ◌++◌, List, Option, Some, OnOk, OnErr, ◌⊎◌};
+ghost use Rattle.std.specs.Prelude.{◌≡◌, ℕ, ◌≤◌, [], ◌∷◌, ◌++◌, List, Option, Some, OnOk, OnErr};
+ghost use Rattle.std.specs.Prelude.{◌⊎◌};
 ghost use Rattle.std.specs.Option.{option_map};
 ghost use Rattle.je_base.specs.Count.{raised, HasFault};
 ghost use Rattle.je_base.specs.Sink.{GainsFront};
-ghost use Rattle.je_base.specs.MemSink.{empty_sink, FailsNext, HasRoomFor, after_put, after_failed_put};
+ghost use Rattle.je_base.specs.MemSink.{empty_sink, FailsNext, HasRoomFor, after_put};
+ghost use Rattle.je_base.specs.MemSink.{after_failed_put};
 
 use crate::count::raised;
 use crate::sink::Sink;

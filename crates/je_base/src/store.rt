@@ -1,11 +1,13 @@
 //! Files in one stretch of memory, into which a write takes no more memory.
 
-ghost use Rattle.std.specs.Prelude.{◌≡◌, ◌+◌, ◌<◌, ◌≤◌, ◌↔◌, [], ◌∷◌, ◌++◌, length, vec_len, IsTrue, IfSome, OnOk, OnErr};
+ghost use Rattle.std.specs.Prelude.{◌≡◌, ◌+◌, ◌<◌, ◌≤◌, ◌↔◌, [], ◌∷◌, ◌++◌, length, vec_len};
+ghost use Rattle.std.specs.Prelude.{IsTrue, IfSome, OnOk, OnErr};
 ghost use Rattle.std.specs.Vec.{vec_capacity};
 ghost use Rattle.std.specs.Option.{option_map};
 ghost use Rattle.std.specs.List.{AllByRecursion};
 ghost use Rattle.std.specs.FinMap.{empty, get, insert};
-ghost use Rattle.je_base.specs.Store.{HasRoom, after_put, span_behind, content_at, contents_after, IsWithin};
+ghost use Rattle.je_base.specs.Store.{HasRoom, after_put, span_behind, content_at, contents_after};
+ghost use Rattle.je_base.specs.Store.{IsWithin};
 
 use crate::stop::Memory;
 use std::alloc::Global;

@@ -1,6 +1,7 @@
 //! Method descriptors.
 
-ghost use Rattle.std.specs.Prelude.{◌≡◌, ℕ, ◌≤◌, ◌↔◌, List, ◌∷◌, ◌++◌, Some, IsTrue, IfSome, IfNone, MatchOption};
+ghost use Rattle.std.specs.Prelude.{◌≡◌, ℕ, ◌≤◌, ◌↔◌, List, ◌∷◌, ◌++◌, Some, IsTrue, IfSome};
+ghost use Rattle.std.specs.Prelude.{IfNone, MatchOption};
 ghost use Rattle.je_desc.specs.FieldType.{FieldType, descriptor};
 ghost use Rattle.je_desc.specs.Descriptor.{units_of, MethodDescriptor};
 ghost use Rattle.je_desc.specs.Front.{ParamsFront, ReturnDescriptor};

@@ -5,14 +5,14 @@ use Rattle.std.specs.List.{AllByRecursion}
 use Rattle.std.specs.Option.{option_map}
 use Rattle.je_consts.specs.declared.constant.Const.{Const}
 use Rattle.je_consts.specs.declared.constant.Const.TheVariants as entry
-use Rattle.je_consts.specs.declared.constant.MemberTag as consts
-use Rattle.je_consts.specs.declared.constant.MemberTag.TheVariants as tags
+use Rattle.je_consts.specs.declared.constant.MemberTag.{MemberTag}
 use Rattle.je_consts.specs.declared.place.Place.{Place}
 use Rattle.je_consts.specs.declared.place.Place.TheVariants.{Entry, Second}
 use Rattle.je_consts.specs.Adding.{NamesMember}
 use Rattle.je_consts.specs.Pool.{tag, tag_at, entry_of, const_at, text_of, text_at, class_of, class_at, NamesAndTypes, IsMemberTag, Names, OfEntry, IsPool, name_and_type_of, name_and_type_at}
-use Rattle.je_machine.specs.Content.{Content, Field, Method, InterfaceMethod, Class, Str, Member, NameAndType, MethodHandle, MethodType, InvokeDynamic}
-use Rattle.je_instr.specs.Content.{sort_of, of_text, of_name_and_type, of_member, handle_of, content_of, content_at}
+use Rattle.je_consts.specs.declared.constant.MemberTag.TheVariants.{Field, Method, InterfaceMethod}
+use Rattle.je_machine.specs.Content.{Content, Class, Str, Member, NameAndType, MethodHandle, MethodType, InvokeDynamic}
+use Rattle.je_instr.specs.Content.{of_text, of_name_and_type, of_member, handle_of, content_of, content_at}
 use Rattle.je_instr.proofs.SpellingLemmas.{some_is}
 
 named_pair : (consts : List Place) (i : ℕ) (name descriptor : List ℕ) → NamesAndTypes consts i name descriptor → name_and_type_at consts i ≡ Some (name, descriptor)
@@ -52,17 +52,17 @@ pair_means consts i name descriptor (n, d, here, text, type) = rw (here, text, t
 pub type_means : (consts : List Place) (i d : ℕ) (descriptor : List ℕ) → const_at consts i ≡ Some (entry.MethodType d) → text_at consts d ≡ Some descriptor → content_at consts i ≡ Some (MethodType descriptor)
 type_means consts i d descriptor here is = rw (here, is) refl
 
-pub member_means : (kind : consts.MemberTag) (consts : List Place) (i : ℕ) (owner name descriptor : List ℕ) → NamesMember kind consts i owner name descriptor → content_at consts i ≡ Some (Member (sort_of kind) owner name descriptor)
-member_means tags.Field consts i owner name descriptor (class, member, here, of, names) = rw here (made_member (Member (sort_of tags.Field)) consts class member owner name descriptor of names)
-member_means tags.Method consts i owner name descriptor (class, member, here, of, names) = rw here (made_member (Member (sort_of tags.Method)) consts class member owner name descriptor of names)
-member_means tags.InterfaceMethod consts i owner name descriptor (class, member, here, of, names) = rw here (made_member (Member (sort_of tags.InterfaceMethod)) consts class member owner name descriptor of names)
+pub member_means : (kind : MemberTag) (consts : List Place) (i : ℕ) (owner name descriptor : List ℕ) → NamesMember kind consts i owner name descriptor → content_at consts i ≡ Some (Member kind owner name descriptor)
+member_means Field consts i owner name descriptor (class, member, here, of, names) = rw here (made_member (Member Field) consts class member owner name descriptor of names)
+member_means Method consts i owner name descriptor (class, member, here, of, names) = rw here (made_member (Member Method) consts class member owner name descriptor of names)
+member_means InterfaceMethod consts i owner name descriptor (class, member, here, of, names) = rw here (made_member (Member InterfaceMethod) consts class member owner name descriptor of names)
 
-handle_named : (kind : consts.MemberTag) (consts : List Place) (k m : ℕ) (owner name descriptor : List ℕ) → NamesMember kind consts m owner name descriptor → option_and_then (handle_of k consts) (const_at consts m) ≡ Some (MethodHandle k (sort_of kind) owner name descriptor)
-handle_named tags.Field consts k m owner name descriptor (class, member, here, of, names) = rw here (made_member (MethodHandle k (sort_of tags.Field)) consts class member owner name descriptor of names)
-handle_named tags.Method consts k m owner name descriptor (class, member, here, of, names) = rw here (made_member (MethodHandle k (sort_of tags.Method)) consts class member owner name descriptor of names)
-handle_named tags.InterfaceMethod consts k m owner name descriptor (class, member, here, of, names) = rw here (made_member (MethodHandle k (sort_of tags.InterfaceMethod)) consts class member owner name descriptor of names)
+handle_named : (kind : MemberTag) (consts : List Place) (k m : ℕ) (owner name descriptor : List ℕ) → NamesMember kind consts m owner name descriptor → option_and_then (handle_of k consts) (const_at consts m) ≡ Some (MethodHandle k kind owner name descriptor)
+handle_named Field consts k m owner name descriptor (class, member, here, of, names) = rw here (made_member (MethodHandle k Field) consts class member owner name descriptor of names)
+handle_named Method consts k m owner name descriptor (class, member, here, of, names) = rw here (made_member (MethodHandle k Method) consts class member owner name descriptor of names)
+handle_named InterfaceMethod consts k m owner name descriptor (class, member, here, of, names) = rw here (made_member (MethodHandle k InterfaceMethod) consts class member owner name descriptor of names)
 
-pub handle_means : (kind : consts.MemberTag) (consts : List Place) (i k m : ℕ) (owner name descriptor : List ℕ) → const_at consts i ≡ Some (entry.MethodHandle k m) → NamesMember kind consts m owner name descriptor → content_at consts i ≡ Some (MethodHandle k (sort_of kind) owner name descriptor)
+pub handle_means : (kind : MemberTag) (consts : List Place) (i k m : ℕ) (owner name descriptor : List ℕ) → const_at consts i ≡ Some (entry.MethodHandle k m) → NamesMember kind consts m owner name descriptor → content_at consts i ≡ Some (MethodHandle k kind owner name descriptor)
 handle_means kind consts i k m owner name descriptor here names = rw here (handle_named kind consts k m owner name descriptor names)
 
 pub dynamic_means : (consts : List Place) (i b m : ℕ) (name descriptor : List ℕ) → const_at consts i ≡ Some (entry.InvokeDynamic b m) → NamesAndTypes consts m name descriptor → content_at consts i ≡ Some (InvokeDynamic b name descriptor)

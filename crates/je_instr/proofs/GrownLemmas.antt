@@ -9,7 +9,8 @@ use Rattle.je_consts.specs.Adding.{Keeps}
 use Rattle.je_consts.specs.Pool.{const_at, text_of, text_at, class_of, class_at, name_and_type_of, name_and_type_at}
 use Rattle.je_instr.specs.declared.instr.Instr.{Instr}
 use Rattle.je_instr.specs.declared.instr.Instr.TheVariants as instr
-use Rattle.je_machine.specs.Content.{Content, Field, Method, InterfaceMethod, Class, Str, Member, NameAndType, MethodHandle, MethodType, InvokeDynamic}
+use Rattle.je_consts.specs.declared.constant.MemberTag.TheVariants.{Field, Method, InterfaceMethod}
+use Rattle.je_machine.specs.Content.{Content, Class, Str, Member, NameAndType, MethodHandle, MethodType, InvokeDynamic}
 use Rattle.je_instr.specs.Content.{of_text, of_name_and_type, of_member, handle_of, content_of, content_at}
 use Rattle.je_machine.specs.Operation.{Operation, Handler, Program}
 use Rattle.je_instr.specs.Code.{RawHandler, Code}

@@ -4,7 +4,8 @@ use Rattle.std.specs.Prelude.{codes}
 use Rattle.je_consts.specs.declared.place.Place.{Place}
 use Rattle.je_desc.specs.FieldType.{Object}
 use Rattle.je_desc.specs.Descriptor.{MethodTypes, SpellsMethod}
-use Rattle.je_machine.specs.Content.{Content, Member, Method}
+use Rattle.je_consts.specs.declared.constant.MemberTag.TheVariants.{Method}
+use Rattle.je_machine.specs.Content.{Content, Member}
 use Rattle.je_machine.specs.Action.{Sort, Static, Invoke}
 use Rattle.je_machine.specs.Operation.{Operation, Nop, Act, Do, Return}
 use Rattle.je_instr.specs.declared.instr.Instr.TheVariants as instr

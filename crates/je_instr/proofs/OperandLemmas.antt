@@ -8,6 +8,8 @@ use Rattle.je_desc.specs.FieldType.{FieldType, Object, Array, dimensions}
 use Rattle.je_desc.specs.Names.{IsClassName}
 use Rattle.je_machine.specs.Action.{Field, GetField, Virtual, Special, Static, Interface, Sort, Invoke, NewArray}
 use Rattle.je_machine.specs.Content.{Content}
+use Rattle.je_consts.specs.declared.constant.MemberTag.{MemberTag}
+use Rattle.je_consts.specs.declared.constant.MemberTag.TheVariants as tags
 use Rattle.je_machine.specs.Content as content
 use Rattle.je_machine.specs.Operation.{Act, Operation, Do, Push, Switch}
 use Rattle.je_machine.specs.Value.{Value, Int, Long, Flt, Dbl, Const}
@@ -72,17 +74,17 @@ getfield_there : IsSome (beside field_actions 180)
 unfolding field_actions
 getfield_there = refl
 
-pub field_is : (consts : List Place) (index : ℕ) (class name text : List ℕ) (type : FieldType) (o : Operation) → content_at consts index ≡ Some (content.Member content.Field class name text)
+pub field_is : (consts : List Place) (index : ℕ) (class name text : List ℕ) (type : FieldType) (o : Operation) → content_at consts index ≡ Some (content.Member tags.Field class name text)
     → IsClassName class → IsPlainName name → SpellsField text type → Resolves consts (instr.Field 180 index) o ↔ (o ≡ Do (Act (GetField (record { class = class; name = name; type = type }))))
 field_is consts index class name text type o here named plain spells =
     let f : Field = record { class = class; name = name; type = type } in
-    let member = content.Member content.Field class name text in
+    let member = content.Member tags.Field class name text in
     let allowed : IsField class name text = record { class_text = (Object class, (named, refl)); plain = plain; descriptor = (type, spells) } in
     is_it consts (instr.Field 180 index) (Do (Act (GetField f))) o (record { allowed = (getfield_there, (member, here, allowed)); becomes = (member, here, (f, (refl, refl, spells), sym (getfield_is f))) })
 
-module _ (consts : List Place) (index count : ℕ) (class name text : List ℕ) (types : MethodTypes) (here : content_at consts index ≡ Some (content.Member content.InterfaceMethod class name text)) (named : IsClassName class) (plain : IsPlainName name) (spells : SpellsMethod text types) where
+module _ (consts : List Place) (index count : ℕ) (class name text : List ℕ) (types : MethodTypes) (here : content_at consts index ≡ Some (content.Member tags.InterfaceMethod class name text)) (named : IsClassName class) (plain : IsPlainName name) (spells : SpellsMethod text types) where
   abbrev member : Content
-  member = content.Member content.InterfaceMethod class name text
+  member = content.Member tags.InterfaceMethod class name text
 
   abbrev call : Operation
   call = Do (Act (Invoke Interface member types))
@@ -131,7 +133,7 @@ special_alone opcode apart e = by_tests (eqb 182 opcode) (eqb 183 opcode) (eqb 1
   by_tests false false true is f = cc
   by_tests false false false is f = cc
 
-pub no_constructor : (consts : List Place) (opcode index : ℕ) (tag : content.MemberTag) (class text : List ℕ) (o : Operation) → opcode ≢ 183 → content_at consts index ≡ Some (content.Member tag class (codes "<init>") text) → Resolves consts (instr.Invoke opcode index) o → ⊥
+pub no_constructor : (consts : List Place) (opcode index : ℕ) (tag : MemberTag) (class text : List ℕ) (o : Operation) → opcode ≢ 183 → content_at consts index ≡ Some (content.Member tag class (codes "<init>") text) → Resolves consts (instr.Invoke opcode index) o → ⊥
 no_constructor consts opcode index tag class text o apart here r = of_allowed r.allowed where
   of_content : (sort : Sort) → beside sorts opcode ≡ Some sort → AllowsCall sort (content.Member tag class (codes "<init>") text) → ⊥
   of_content sort is (types, calls) =

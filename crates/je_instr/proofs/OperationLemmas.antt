@@ -6,8 +6,8 @@ use Rattle.je_consts.specs.declared.place.Place.{Place}
 use Rattle.je_desc.specs.FieldType.{FieldType, Base, Object, Array, descriptor}
 use Rattle.je_desc.specs.Descriptor.{MethodTypes, SpellsMethod}
 use Rattle.je_desc.specs.Names.{IsClassName}
-use Rattle.je_machine.specs.Content.{Content, Utf8Text, Integer, Float, LongInteger, Double, Class, Str, Member, NameAndType, MethodHandle, MethodType, InvokeDynamic}
-use Rattle.je_machine.specs.Content as content
+use Rattle.je_machine.specs.Content.{Content, Integer, Float, LongInteger, Double, Class, Str, Member, MethodHandle, MethodType, InvokeDynamic}
+use Rattle.je_consts.specs.declared.constant.MemberTag.TheVariants as tags
 use Rattle.je_machine.specs.Action.{Field, Action, Sort, Interface, Dynamic, Invoke, New, NewArray, CheckCast, InstanceOf}
 use Rattle.je_machine.specs.Operation.{Operation, Act, Do, Branch}
 use Rattle.je_instr.specs.declared.instr.Instr.{Instr}
@@ -39,7 +39,7 @@ same_field f g class name type =
     ap (λ (x : List ℕ). field_made x f.name f.type) class ∙ ap (λ (x : List ℕ). field_made g.class x f.type) name ∙ ap (λ (x : FieldType). field_made g.class g.name x) type
 
 one_field : (c : Content) (f g : Field) → IsFieldOf f c → IsFieldOf g c → f ≡ g
-one_field (Member content.Field class name text) f g hf hg =
+one_field (Member tags.Field class name text) f g hf hg =
     same_field f g (hf.0 ∙ sym hg.0) (hf.1 ∙ sym hg.1) (one_type text f.type g.type hf.2 hg.2)
 one_field _ f g hf hg = absurd hf
 
@@ -165,7 +165,7 @@ ldc2_made (Double bits) h = (_, refl)
 ldc2_made _ h = absurd h
 
 field_makes : (opcode : ℕ) → IsSome (beside field_actions opcode) → (c : Content) → AllowsField c → (o : Operation) × FieldOperation opcode o c
-field_makes opcode there (Member content.Field class name text) h =
+field_makes opcode there (Member tags.Field class name text) h =
     let f : Field = record { class = class; name = name; type = h.descriptor.0 } in
     let made = found (λ make. Do (Act (make f))) (beside field_actions opcode) there in
     (made.0, (f, (refl, refl, h.descriptor.1), made.1))

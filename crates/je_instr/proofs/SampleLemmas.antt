@@ -2,7 +2,8 @@
 use Rattle.std.proofs.Common.{◌≡◌, ℕ, List, [], ◌∷◌, Some, None, refl, sym, ap, subst, ◌∙◌}
 use Rattle.std.specs.List.{AllZip}
 use Rattle.je_consts.specs.declared.place.Place.{Place}
-use Rattle.je_machine.specs.Content.{Content, Member, Method}
+use Rattle.je_consts.specs.declared.constant.MemberTag.TheVariants.{Method}
+use Rattle.je_machine.specs.Content.{Content, Member}
 use Rattle.je_machine.specs.Heap.{Heap}
 use Rattle.je_machine.specs.Operation.{Operation, Nop, Act, Do, Return, Handler, Program}
 use Rattle.je_machine.specs.Sample.{value_answer, throw_answer}

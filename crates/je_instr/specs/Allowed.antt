@@ -7,7 +7,9 @@ use Rattle.je_desc.specs.Names.{IsClassName}
 use Rattle.je_desc.specs.FieldType.{FieldType, Base, Object, Array, dimensions, descriptor}
 use Rattle.je_desc.specs.Descriptor.{MethodTypes, SpellsField, SpellsMethod, FieldDescriptor}
 use Rattle.je_desc.specs.Descriptor.{units_of_params}
-use Rattle.je_machine.specs.Content.{MemberTag, Method, InterfaceMethod, Content, Integer, Float}
+use Rattle.je_consts.specs.declared.constant.MemberTag.{MemberTag}
+use Rattle.je_consts.specs.declared.constant.MemberTag.TheVariants as tags
+use Rattle.je_machine.specs.Content.{Content, Integer, Float}
 use Rattle.je_machine.specs.Content.{LongInteger, Double, Class, Str, Member, MethodHandle}
 use Rattle.je_machine.specs.Content.{MethodType}
 use Rattle.je_machine.specs.Content as content
@@ -62,15 +64,15 @@ pub record IsField (class name text : List ℕ) : Type 0 where
   pub descriptor : FieldDescriptor text
 
 abbrev pub AllowsField : Content → Type 0
-AllowsField (Member content.Field class name text) = IsField class name text
+AllowsField (Member tags.Field class name text) = IsField class name text
 AllowsField _ = ⊥
 
 -- the sort of a call goes with the sort of a member
 abbrev pub TakesTag : Sort → MemberTag → Type 0
-TakesTag Virtual tag = tag ≡ Method
-TakesTag Special tag = (tag ≡ Method) ⊎ (tag ≡ InterfaceMethod)
-TakesTag Static tag = (tag ≡ Method) ⊎ (tag ≡ InterfaceMethod)
-TakesTag Interface tag = tag ≡ InterfaceMethod
+TakesTag Virtual tag = tag ≡ tags.Method
+TakesTag Special tag = (tag ≡ tags.Method) ⊎ (tag ≡ tags.InterfaceMethod)
+TakesTag Static tag = (tag ≡ tags.Method) ⊎ (tag ≡ tags.InterfaceMethod)
+TakesTag Interface tag = tag ≡ tags.InterfaceMethod
 TakesTag Dynamic tag = ⊥
 
 -- A constructor is called by invokespecial alone and has no result, a class initialiser by none.

@@ -3,7 +3,8 @@
 use Rattle.std.specs.Prelude.{◌≡◌, ◌≢◌, ℕ, List, codes, Some}
 use Rattle.je_consts.specs.declared.place.Place.{Place}
 use Rattle.je_desc.specs.Names.{IsClassName}
-use Rattle.je_machine.specs.Content.{Member, Method}
+use Rattle.je_consts.specs.declared.constant.MemberTag.TheVariants.{Method}
+use Rattle.je_machine.specs.Content.{Member}
 use Rattle.je_instr.specs.declared.instr.Instr.{Instr}
 use Rattle.je_instr.specs.declared.instr.Instr.TheVariants.{Invoke}
 use Rattle.je_instr.specs.Content.{content_at}

@@ -3,19 +3,12 @@
 use Rattle.std.specs.Prelude.{◌≡◌, ℕ, List, Option, Some, None, option_and_then}
 use Rattle.je_consts.specs.declared.constant.Const.{Const}
 use Rattle.je_consts.specs.declared.constant.Const.TheVariants as entry
-use Rattle.je_consts.specs.declared.constant.MemberTag as consts
-use Rattle.je_consts.specs.declared.constant.MemberTag.TheVariants as tags
 use Rattle.je_consts.specs.declared.place.Place.{Place}
 use Rattle.je_consts.specs.Pool.{const_at, text_at, class_at, name_and_type_at}
-use Rattle.je_machine.specs.Content.{MemberTag, Field, Method, InterfaceMethod, Content, Utf8Text}
+use Rattle.je_consts.specs.declared.constant.MemberTag.TheVariants.{Field, Method, InterfaceMethod}
+use Rattle.je_machine.specs.Content.{Content, Utf8Text}
 use Rattle.je_machine.specs.Content.{Integer, Float, LongInteger, Double, Class, Str, Member}
 use Rattle.je_machine.specs.Content.{NameAndType, MethodHandle, MethodType, InvokeDynamic}
-
--- which of the three sorts of members, as the machine has them
-abbrev pub sort_of : consts.MemberTag → MemberTag
-sort_of tags.Field = Field
-sort_of tags.Method = Method
-sort_of tags.InterfaceMethod = InterfaceMethod
 
 -- what is made of the text at an index
 abbrev pub of_text : (List ℕ → Content) → List Place → ℕ → Option Content

@@ -6,7 +6,7 @@ use Rattle.je_desc.specs.FieldType.{FieldType, Base, Array}
 use Rattle.je_desc.specs.Descriptor.{MethodTypes, SpellsField}
 use Rattle.je_machine.specs.Content.{Content, Integer, Float, LongInteger, Double, Class, Str}
 use Rattle.je_machine.specs.Content.{Member, MethodHandle, MethodType}
-use Rattle.je_machine.specs.Content as content
+use Rattle.je_consts.specs.declared.constant.MemberTag.TheVariants as tags
 use Rattle.je_machine.specs.Value.{Value, Int, Long, Flt, Dbl, Const}
 use Rattle.je_machine.specs.Action.{Field, Sort, Interface, Dynamic, Action, Invoke, New, NewArray}
 use Rattle.je_machine.specs.Action.{CheckCast, InstanceOf}
@@ -46,7 +46,7 @@ pushed value = option_map (λ v. Do (Push v)) value
 
 -- the constant is this field
 abbrev pub IsFieldOf : Field → Content → Type 0
-IsFieldOf f (Member content.Field class name text) =
+IsFieldOf f (Member tags.Field class name text) =
     (f.class ≡ class) × (f.name ≡ name) × SpellsField text f.type
 IsFieldOf f _ = ⊥
 

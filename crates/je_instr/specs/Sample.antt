@@ -2,7 +2,8 @@
 use Rattle.std.specs.Prelude.{◌≡◌, ℕ, List, [], ◌∷◌, Option, Some, None}
 use Rattle.std.specs.List.{AllZip}
 use Rattle.je_consts.specs.declared.place.Place.{Place}
-use Rattle.je_machine.specs.Content.{Content, Member, Method}
+use Rattle.je_consts.specs.declared.constant.MemberTag.TheVariants.{Method}
+use Rattle.je_machine.specs.Content.{Content, Member}
 use Rattle.je_machine.specs.Heap.{Heap}
 use Rattle.je_machine.specs.Classes.{Classes}
 use Rattle.je_machine.specs.Action.{Action, Static, Invoke}

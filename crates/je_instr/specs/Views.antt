@@ -1,6 +1,7 @@
 -- Serves private functions: what constants say, by their sorts.
 use Rattle.std.specs.Prelude.{◌≡◌, ℕ, Bool, true, false, List, Option, Some, None}
-use Rattle.je_machine.specs.Content.{MemberTag, Content, Integer, Float, LongInteger, Double, Class}
+use Rattle.je_consts.specs.declared.constant.MemberTag.{MemberTag}
+use Rattle.je_machine.specs.Content.{Content, Integer, Float, LongInteger, Double, Class}
 use Rattle.je_machine.specs.Content.{Str, Member, MethodHandle, MethodType, InvokeDynamic}
 use Rattle.je_machine.specs.Action.{Sort, Virtual, Special, Static, Interface, Dynamic}
 use Rattle.je_desc.specs.Descriptor.{MethodTypes, units_of_params}

@@ -2,7 +2,8 @@
 
 ghost use Rattle.std.specs.Prelude.{◌≡◌, ℕ, ◌↔◌, List, Some, codes, IsTrue, IfSome, IfNone};
 ghost use Rattle.std.specs.Option.{option_map};
-ghost use Rattle.je_machine.specs.Content.{Member, Method};
+ghost use Rattle.je_consts.specs.declared.constant.MemberTag.TheVariants.{Method};
+ghost use Rattle.je_machine.specs.Content.{Member};
 ghost use Rattle.je_instr.specs.Content.{content_at};
 ghost use Rattle.je_instr.specs.Callee.{IsCallable};
 ghost use Rattle.je_instr.specs.Methods.{of_method};

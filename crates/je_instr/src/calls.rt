@@ -5,7 +5,7 @@ ghost use Rattle.std.specs.Option.{option_map, option_copied};
 ghost use Rattle.je_desc.specs.FieldType.{FieldType};
 ghost use Rattle.je_desc.specs.Names.{IsClassName};
 ghost use Rattle.je_desc.specs.Descriptor.{MethodTypes, SpellsMethod, FieldDescriptor, units_of_params};
-ghost use Rattle.je_instr.specs.Content.{content_at, sort_of, Names};
+ghost use Rattle.je_instr.specs.Content.{content_at, Names};
 ghost use Rattle.je_instr.specs.Allowed.{IsClass, IsClassText, IsMadeOf, HasDimensions, IsPlainName, IsField, AllowsField, TakesTag, IsCalledName, IsMethod, IsDynamic, AllowsCall, AllowsCounted, AllowsLdc, AllowsLdc2};
 ghost use Rattle.je_machine.specs.Action.{Interface, Dynamic};
 ghost use Rattle.je_instr.specs.Views.{of_class, of_any, of_dynamic, is_loaded, is_wide, sort_of_call, CallsWith};
@@ -40,7 +40,7 @@ pub(crate) fn class_text(consts: &Consts, index: u16) -> Option<&Text>
 
 /// A member: its sort, the text of its class, its name and its descriptor.
 fn any_member(consts: &Consts, index: u16) -> Option<(MemberTag, &Text, &Text, &Text)>
-    ensures { option_map (λ m. (sort_of m.0, m.1.now, m.2.now, m.3.now)) result
+    ensures { option_map (λ m. (m.0, m.1.now, m.2.now, m.3.now)) result
         ≡ of_any (content_at consts.now index) }
 {
     let (tag, class, member) = match consts.get(index) {
@@ -161,7 +161,7 @@ pub(crate) fn is_field_const(consts: &Consts, index: u16) -> bool
 
 /// Whether a call of this sort is of members of this one.
 fn takes_tag(call: Call, tag: MemberTag) -> bool
-    ensures { IsTrue result ↔ TakesTag (sort_of_call call) (sort_of tag) }
+    ensures { IsTrue result ↔ TakesTag (sort_of_call call) tag }
 {
     match (call, tag) {
         (Call::Virtual, MemberTag::Method) => true,
@@ -187,8 +187,8 @@ fn is_called_name(call: Call, name: &[u8], text: &[u8]) -> bool
 
 /// The units of the parameters of a method that may be called so.
 fn method_units(call: Call, tag: MemberTag, class: &[u8], name: &[u8], text: &[u8]) -> Option<u32>
-    ensures some { IfSome result (λ n. (m : MethodTypes) × IsMethod (sort_of_call call) (sort_of tag) class.now name.now text.now m × (n ≡ units_of_params m)) }
-    ensures none { IfNone result ((m : MethodTypes) → IsMethod (sort_of_call call) (sort_of tag) class.now name.now text.now m → ⊥) }
+    ensures some { IfSome result (λ n. (m : MethodTypes) × IsMethod (sort_of_call call) tag class.now name.now text.now m × (n ≡ units_of_params m)) }
+    ensures none { IfNone result ((m : MethodTypes) → IsMethod (sort_of_call call) tag class.now name.now text.now m → ⊥) }
 {
     if !takes_tag(call, tag) || !is_class_text(class) {
         return None;

@@ -3,18 +3,19 @@
 ghost use Rattle.std.specs.Prelude.{◌≡◌, ℕ, ◌↔◌, List, [], ◌∷◌, Bool, codes, Some, None, IsSome};
 ghost use Rattle.std.specs.List.{AllByRecursion, AllZip};
 ghost use Rattle.je_consts.specs.declared.constant.Const.TheVariants as entry;
-ghost use Rattle.je_consts.specs.declared.constant.MemberTag as consts;
+ghost use Rattle.je_consts.specs.declared.constant.MemberTag.{MemberTag};
 ghost use Rattle.je_consts.specs.declared.place.Place.{Place};
 ghost use Rattle.je_consts.specs.Adding.{Keeps, NamesMember};
 ghost use Rattle.je_consts.specs.Pool.{const_at, class_at, text_at, NamesAndTypes, IsPool};
 ghost use Rattle.je_desc.specs.Descriptor.{MethodTypes};
-ghost use Rattle.je_machine.specs.Content.{Content, Class, Str, Member, Method, NameAndType, MethodHandle, MethodType, InvokeDynamic};
+ghost use Rattle.je_consts.specs.declared.constant.MemberTag.TheVariants.{Method};
+ghost use Rattle.je_machine.specs.Content.{Content, Class, Str, Member, NameAndType, MethodHandle, MethodType, InvokeDynamic};
 ghost use Rattle.je_machine.specs.Action.{Static, Invoke};
 ghost use Rattle.je_machine.specs.Operation.{Nop, Act, Operation, Do, Return, Program};
 ghost use Rattle.je_instr.specs.declared.instr.Instr.{Instr};
 ghost use Rattle.je_instr.specs.declared.instr.Instr.TheVariants as instr;
 ghost use Rattle.je_instr.specs.declared.opcodes.TheConstants as op;
-ghost use Rattle.je_instr.specs.Content.{sort_of, content_at};
+ghost use Rattle.je_instr.specs.Content.{content_at};
 ghost use Rattle.je_instr.specs.Code.{Code, CodeBytes};
 ghost use Rattle.je_instr.specs.CodeProgram.{CodeProgram};
 ghost use Rattle.je_instr.specs.Allowed.{IsAllowed};
@@ -53,18 +54,18 @@ pub fn constants_mean()
     ensures string { (consts : List Place) (i t : ℕ) (text : List ℕ) →
         const_at consts i ≡ Some (entry.Str t) → text_at consts t ≡ Some text
         → content_at consts i ≡ Some (Str text) }
-    ensures member { (kind : consts.MemberTag) (consts : List Place) (i : ℕ)
+    ensures member { (kind : MemberTag) (consts : List Place) (i : ℕ)
         (owner name descriptor : List ℕ) →
         NamesMember kind consts i owner name descriptor
-        → content_at consts i ≡ Some (Member (sort_of kind) owner name descriptor) }
+        → content_at consts i ≡ Some (Member kind owner name descriptor) }
     ensures pair { (consts : List Place) (i : ℕ) (name descriptor : List ℕ) →
         NamesAndTypes consts i name descriptor
         → content_at consts i ≡ Some (NameAndType name descriptor) }
-    ensures handle { (kind : consts.MemberTag) (consts : List Place) (i k m : ℕ)
+    ensures handle { (kind : MemberTag) (consts : List Place) (i k m : ℕ)
         (owner name descriptor : List ℕ) →
         const_at consts i ≡ Some (entry.MethodHandle k m)
         → NamesMember kind consts m owner name descriptor
-        → content_at consts i ≡ Some (MethodHandle k (sort_of kind) owner name descriptor) }
+        → content_at consts i ≡ Some (MethodHandle k kind owner name descriptor) }
     ensures method_type { (consts : List Place) (i d : ℕ) (descriptor : List ℕ) →
         const_at consts i ≡ Some (entry.MethodType d) → text_at consts d ≡ Some descriptor
         → content_at consts i ≡ Some (MethodType descriptor) }

@@ -6,6 +6,8 @@ ghost use Rattle.je_desc.specs.Descriptor.{MethodTypes, SpellsField, SpellsMetho
 ghost use Rattle.je_desc.specs.FieldType.{FieldType, Object, Array, dimensions};
 ghost use Rattle.je_desc.specs.Names.{IsClassName};
 ghost use Rattle.je_machine.specs.Action.{GetField, Interface, Special, Sort, Invoke, New, NewArray};
+ghost use Rattle.je_consts.specs.declared.constant.MemberTag.{MemberTag};
+ghost use Rattle.je_consts.specs.declared.constant.MemberTag.TheVariants as tags;
 ghost use Rattle.je_machine.specs.Content as content;
 ghost use Rattle.je_machine.specs.Operation.{Act, Operation, Do, Push, Switch};
 ghost use Rattle.je_machine.specs.Value.{Int, Long, Flt, Dbl, Const};
@@ -48,24 +50,24 @@ pub fn loads_mean()
 pub fn members_mean()
     ensures field { (consts : List Place) (index : ℕ) (class name text : List ℕ) (type : FieldType)
         (o : Operation) →
-        content_at consts index ≡ Some (content.Member content.Field class name text)
+        content_at consts index ≡ Some (content.Member tags.Field class name text)
         → IsClassName class → IsPlainName name → SpellsField text type
         → Resolves consts (instr.Field op.GETFIELD index) o
         ↔ (o ≡ Do (Act (GetField (record { class = class; name = name; type = type })))) }
     // The count is that of all slots of arguments, with the object's.
     ensures interface { (consts : List Place) (index count : ℕ) (class name text : List ℕ)
         (types : MethodTypes) (o : Operation) →
-        content_at consts index ≡ Some (content.Member content.InterfaceMethod class name text)
+        content_at consts index ≡ Some (content.Member tags.InterfaceMethod class name text)
         → IsClassName class → IsPlainName name → SpellsMethod text types
         → Resolves consts (instr.InvokeInterface index count) o
         ↔ ((count ≡ units_of_params types + 1) × (o ≡ Do (Act (Invoke Interface
-        (content.Member content.InterfaceMethod class name text) types)))) }
+        (content.Member tags.InterfaceMethod class name text) types)))) }
     // A constructor is called by invokespecial alone, a class initialiser by no instruction.
-    ensures constructor { (consts : List Place) (opcode index : ℕ) (tag : content.MemberTag)
+    ensures constructor { (consts : List Place) (opcode index : ℕ) (tag : MemberTag)
         (class text : List ℕ) (o : Operation) → opcode ≢ op.INVOKESPECIAL →
         content_at consts index ≡ Some (content.Member tag class (codes "<init>") text)
         → Resolves consts (instr.Invoke opcode index) o → ⊥ }
-    ensures initialiser { (consts : List Place) (opcode index : ℕ) (tag : content.MemberTag)
+    ensures initialiser { (consts : List Place) (opcode index : ℕ) (tag : MemberTag)
         (class text : List ℕ) (o : Operation) →
         content_at consts index ≡ Some (content.Member tag class (codes "<clinit>") text)
         → Resolves consts (instr.Invoke opcode index) o → ⊥ }

@@ -2,12 +2,8 @@
 -- 4.4).
 use Rattle.std.specs.Prelude.{ℕ, ℤ, List, Bool, true, false, nat_eq, ◌&&◌}
 use Rattle.je_base.specs.Text.{is_same_text}
-
--- which of the three sorts of members a constant names
-pub data MemberTag : Type 0 where
-  Field : MemberTag
-  Method : MemberTag
-  InterfaceMethod : MemberTag
+use Rattle.je_consts.specs.declared.constant.MemberTag.{MemberTag}
+use Rattle.je_consts.specs.declared.constant.MemberTag.TheVariants as tags
 
 -- A member by its class, its name and its descriptor. Floats and doubles are kept as their bits.
 pub data Content : Type 0 where
@@ -33,9 +29,9 @@ is_loadable (MethodType descriptor) = true
 is_loadable _ = false
 
 abbrev pub is_same_tag : MemberTag → MemberTag → Bool
-is_same_tag Field Field = true
-is_same_tag Method Method = true
-is_same_tag InterfaceMethod InterfaceMethod = true
+is_same_tag tags.Field tags.Field = true
+is_same_tag tags.Method tags.Method = true
+is_same_tag tags.InterfaceMethod tags.InterfaceMethod = true
 is_same_tag _ _ = false
 
 -- two constants that ldc loads as one reference: those of equal content

@@ -3,7 +3,9 @@ use Rattle.std.specs.Prelude.{ℕ, ℤ, pos, List, [], ◌∷◌, map, Option, S
 use Rattle.std.specs.FinMap.{empty}
 use Rattle.je_desc.specs.FieldType.{FieldType, Base}
 use Rattle.je_desc.specs.FieldType as types
-use Rattle.je_machine.specs.Content.{MemberTag, Member, Method, Str, MethodHandle}
+use Rattle.je_consts.specs.declared.constant.MemberTag.{MemberTag}
+use Rattle.je_consts.specs.declared.constant.MemberTag.TheVariants.{Method}
+use Rattle.je_machine.specs.Content.{Member, Str, MethodHandle}
 use Rattle.je_machine.specs.Value.{IntKind, FloatKind, ReferenceKind, Value, Int, Long, Null, Obj}
 use Rattle.je_machine.specs.Value.{Const}
 use Rattle.je_machine.specs.Heap.{Object, Array, Heap, Fields, new_instance}

@@ -1,7 +1,8 @@
 //! The machine of methods: values, heap, actions, runs and views, as definitions with their laws.
 //!
-//! Stands on je_base and je_desc. Has no code of its own: its functions are laws over the
-//! definitions. Offers above: what each instruction does, and what a longer bound of a run shows.
+//! Stands on je_base, je_consts and je_desc. Has no code of its own: its functions are laws over
+//! the definitions. Offers above: what each instruction does, and what a longer bound of a run
+//! shows.
 #![tactic(auto)]
 
 mod acting;

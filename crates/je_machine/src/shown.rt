@@ -2,7 +2,9 @@
 
 ghost use Rattle.std.specs.Prelude.{◌≡◌, ◌^◌, [], ◌∷◌, ℕ, ℤ, pos, negsuc, List, map, Some, None};
 ghost use Rattle.std.specs.Prelude.{true, false, codes};
-ghost use Rattle.je_machine.specs.Content.{MemberTag, Method, InterfaceMethod, Integer, Class, Str};
+ghost use Rattle.je_consts.specs.declared.constant.MemberTag.{MemberTag};
+ghost use Rattle.je_consts.specs.declared.constant.MemberTag.TheVariants.{Method, InterfaceMethod};
+ghost use Rattle.je_machine.specs.Content.{Integer, Class, Str};
 ghost use Rattle.je_machine.specs.Content.{MethodHandle, MethodType};
 ghost use Rattle.je_machine.specs.Value.{IntKind, LongKind, FloatKind, DoubleKind, ReferenceKind};
 ghost use Rattle.je_machine.specs.Value.{Value, Int, Long, Flt, Dbl, Null, Obj, Const, admit};

@@ -8,7 +8,8 @@ use Rattle.je_class.specs.declared.member.Attribute.{Attribute}
 use Rattle.je_class.specs.declared.member.Member.{Member}
 use Rattle.je_class.specs.Class.{Class, IsNamed, IsMethodAt}
 use Rattle.je_desc.specs.Descriptor.{MethodTypes, SpellsMethod}
-use Rattle.je_machine.specs.Content.{Content, Method}
+use Rattle.je_consts.specs.declared.constant.MemberTag.TheVariants.{Method}
+use Rattle.je_machine.specs.Content.{Content}
 use Rattle.je_machine.specs.Content as content
 use Rattle.je_machine.specs.Action.{Static, Invoke}
 use Rattle.je_machine.specs.Operation.{Nop, Act, Operation, Do, Return}

@@ -4,7 +4,8 @@ use Rattle.std.specs.List.{AllByRecursion, AllZip}
 use Rattle.std.specs.Option.{option_map}
 use Rattle.je_consts.specs.declared.place.Place.{Place}
 use Rattle.je_machine.specs.Action.{Static, Invoke}
-use Rattle.je_machine.specs.Content.{Member, Method}
+use Rattle.je_consts.specs.declared.constant.MemberTag.TheVariants.{Method}
+use Rattle.je_machine.specs.Content.{Member}
 use Rattle.je_machine.specs.Operation.{Act, Operation, Do}
 use Rattle.je_instr.specs.declared.instr.Instr.{Instr}
 use Rattle.je_instr.specs.Callee.{CallsSoFar}

@@ -2,7 +2,8 @@
 
 ghost use Rattle.std.specs.Prelude.{◌≡◌, [], List, None, codes, count_by, is_some, IfOk, IfErr, OnErr};
 ghost use Rattle.std.specs.List.{AllByRecursion};
-ghost use Rattle.je_machine.specs.Content.{Member, Method};
+ghost use Rattle.je_consts.specs.declared.constant.MemberTag.TheVariants.{Method};
+ghost use Rattle.je_machine.specs.Content.{Member};
 ghost use Rattle.je_machine.specs.Operation.{Operation};
 ghost use Rattle.je_instr.specs.Callee.{CallsSoFar};
 ghost use Rattle.je_instr.specs.Resolves.{Resolves};

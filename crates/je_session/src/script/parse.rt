@@ -3,7 +3,9 @@
 ghost use Rattle.std.specs.Prelude.{◌≡◌, List, IfOk, MatchResult};
 ghost use Rattle.je_session.specs.declared.plan.Script.{Script};
 ghost use Rattle.je_session.specs.Script.{ScriptForm};
-ghost use Rattle.je_session.specs.Reading.{Gives, is_reserved, is_ident, after_word, after_mark, ident_at, empty_at, proceed_at, body_at, fragment_at, rule_at, plan_at, end_at, script_at};
+ghost use Rattle.je_session.specs.Reading.{Gives, is_reserved, is_ident, after_word, after_mark};
+ghost use Rattle.je_session.specs.Reading.{ident_at, empty_at, proceed_at, body_at, fragment_at};
+ghost use Rattle.je_session.specs.Reading.{rule_at, plan_at, end_at, script_at};
 
 use crate::plan::{Fragment, MethodPlan, Rule, Script};
 use crate::script::token::Token;

@@ -1,6 +1,7 @@
 //! The tokens of a script's text.
 
-ghost use Rattle.std.specs.Prelude.{◌≡◌, ℕ, ◌<◌, ◌≤◌, ◌↔◌, List, [], ◌∷◌, length, slice_index, IsTrue, IfOk, IsErrOf, MatchResult};
+ghost use Rattle.std.specs.Prelude.{◌≡◌, ℕ, ◌<◌, ◌≤◌, ◌↔◌, List, [], ◌∷◌, length, slice_index};
+ghost use Rattle.std.specs.Prelude.{IsTrue, IfOk, IsErrOf, MatchResult};
 ghost use Rattle.je_session.specs.declared.script.token.Token.{Token};
 ghost use Rattle.je_session.specs.declared.script.tokens.ScriptStop.TheVariants as stop;
 ghost use Rattle.je_session.specs.Tokens.{IsWhite, IsMark, IsWordByte, AreTokens};

@@ -1,7 +1,9 @@
 //! Why a run stopped, and the line that tells it.
 
 ghost use Rattle.std.specs.Prelude.{◌≡◌, IfOk, OnErr, string_bytes};
-ghost use Rattle.je_session.specs.Cause.{NoScript, NotYetScript, NoClass, BadClass, WrongName, NotYetClass, NoLine, Refuses, ReadingFailed, NoMemory, line_bytes, refusal_line, TellsCause, Tells};
+ghost use Rattle.je_session.specs.Cause.{NoScript, NotYetScript, NoClass, BadClass, WrongName};
+ghost use Rattle.je_session.specs.Cause.{NotYetClass, NoLine, Refuses, ReadingFailed, NoMemory};
+ghost use Rattle.je_session.specs.Cause.{line_bytes, refusal_line, TellsCause, Tells};
 
 use crate::status::Status;
 use je_base::{Memory, Text};
