@@ -99,11 +99,11 @@ IsUnit-unit : (u : ℕ) → u < 2 ^ 16 → IsUnit (unit u)
 IsUnit-unit u h = elim (cases_lt u 0x80) [
   | inl one ↦ elim (cases_lt 0 u) [
     | inl from ↦ rw (unit_one u from one) (omega arith, omega arith)
-    | inr zero ↦ rw (unit_two u (omega arith) (inl (omega arith))) (omega arith, omega arith, (omega arith, omega arith))
+    | inr zero ↦ rw (unit_two u (omega arith) (inl (omega arith))) ((omega arith, omega arith), (omega arith, omega arith))
   ]
   | inr more ↦ elim (cases_lt u 0x800) [
-    | inl two ↦ rw (unit_two u two (inr more)) (omega arith, omega arith, (omega arith, omega arith))
-    | inr three ↦ rw (unit_three u three) (omega arith, omega arith, (omega arith, omega arith), (omega arith, omega arith))
+    | inl two ↦ rw (unit_two u two (inr more)) ((omega arith, omega arith), (omega arith, omega arith))
+    | inr three ↦ rw (unit_three u three) ((omega arith, omega arith), (omega arith, omega arith), (omega arith, omega arith))
   ]
 ]
 

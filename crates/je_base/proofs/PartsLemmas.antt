@@ -1,8 +1,8 @@
 -- Parts of one layout come to one answer at an offset: nothing else stands there, and no other fault is the first.
 use Rattle.std.proofs.Common.{◌≡◌, ℕ, ◌+◌, ◌^◌, ◌<◌, List, [], ◌∷◌, ◌++◌, length, drop, Result, Ok, Err, refl, sym, ap, subst, ◌∙◌, arith, inl, inr, ◌⊎◌}
 use Rattle.std.specs.List.{AllByRecursion}
-use Rattle.je_base.specs.Bytes.{u1, u2, u4, IsThere, OneReading}
-use Rattle.je_base.specs.Parts.{Part, U1, U2, U4, Run, Nested, Format, part_bytes, IsCut, FailsFirst, IsPartFault, Stands, Follows, Breaks, Comes, IsSameSort, AreOneLayout, Agree, OneValue, OneWay}
+use Rattle.je_base.specs.Bytes.{u1, u2, u4, u8, IsThere, OneReading}
+use Rattle.je_base.specs.Parts.{Part, U1, U2, U4, U8, Run, Nested, Format, part_bytes, IsCut, FailsFirst, IsPartFault, Stands, Follows, Breaks, Comes, IsSameSort, AreOneLayout, Agree, OneValue, OneWay}
 
 all_split : {A : Type 0} (P : A → Type 0) (xs ys : List A) → AllByRecursion P (xs ++ ys) → AllByRecursion P xs × AllByRecursion P ys
 all_split P [] ys h = (tt, h)
@@ -62,6 +62,23 @@ module _ {Test Value Fault : Type 0} (format : Format Test Value Fault) where
             let same = same_number n m f.1 k.1 f.0 k.0 in
             fails_one at others d e (subst (λ (ts : List Test). FailsFirst format at ts d) (sort same) f.2) k.2
 
+    -- ---- runs of so many bytes
+
+    abbrev RunFault : List ℕ → List Test → Fault → Type 0
+    RunFault x ts d = IsCut format bytes at (length x) d ⊎ (IsThere bytes at x × FailsFirst format at ts d)
+
+    module _ (x y : List ℕ) (ts us : List Test) (len : length x ≡ length y) (sort : x ≡ y → ts ≡ us) where
+      run_no_fault : (d : Fault) → IsThere bytes at x × AllByRecursion format.Passes ts → RunFault y us d → ⊥
+      run_no_fault d h (inl cut) = too_short x (length y) len h.0 cut.0
+      run_no_fault d h (inr f) = fails_not at us d f.1 (subst (AllByRecursion format.Passes) (sort (one.run bytes x y at len h.0 f.0)) h.1)
+
+      run_one_fault : (d e : Fault) → RunFault x ts d → RunFault y us e → d ≡ e
+      run_one_fault d e (inl f) (inl k) = f.1 ∙ sym k.1
+      run_one_fault d e (inl f) (inr k) = absurd (too_short y (length x) (sym len) k.0 f.0)
+      run_one_fault d e (inr f) (inl k) = absurd (too_short x (length y) len f.0 k.0)
+      run_one_fault d e (inr f) (inr k) =
+          fails_one at us d e (subst (λ (tests : List Test). FailsFirst format at tests d) (sort (one.run bytes x y at len f.0 k.0)) f.1) k.1
+
     -- ---- single parts
 
     -- at this offset stands one of the two or the other, or there is one fault
@@ -86,10 +103,15 @@ module _ {Test Value Fault : Type 0} (format : Format Test Value Fault) where
       no_fault = number_no_fault 4 (2 ^ 32) u4 (λ i. refl) one.four n m ts us sort;
       one_fault = number_one_fault 4 (2 ^ 32) u4 (λ i. refl) one.four n m ts us sort;
     }
-    part_one values (Run x) (Run y) sort = record {
-      same = λ h k. ap Run (one.run bytes x y at sort h.0 k.0);
-      no_fault = λ d h k. too_short x (length y) sort h.0 k.0;
-      one_fault = λ d e f k. f.1 ∙ sym k.1;
+    part_one values (U8 n ts) (U8 m us) sort = record {
+      same = λ h k. let e = number_same 8 (2 ^ 64) u8 (λ i. refl) one.eight n m ts us sort h k in cc (e.0, e.1);
+      no_fault = number_no_fault 8 (2 ^ 64) u8 (λ i. refl) one.eight n m ts us sort;
+      one_fault = number_one_fault 8 (2 ^ 64) u8 (λ i. refl) one.eight n m ts us sort;
+    }
+    part_one values (Run x ts) (Run y us) sort = record {
+      same = λ h k. let e = one.run bytes x y at sort.0 h.0 k.0 in let tests = sort.1 e in cc;
+      no_fault = run_no_fault x y ts us sort.0 sort.1;
+      one_fault = run_one_fault x y ts us sort.0 sort.1;
     }
     part_one values (Nested v) (Nested w) sort = record {
       same = λ h k. ap Nested (values.same bytes at v w h k);
@@ -102,7 +124,8 @@ module _ {Test Value Fault : Type 0} (format : Format Test Value Fault) where
   sort_back (U1 n ts) (U1 m us) sort = λ e. sym (sort (sym e))
   sort_back (U2 n ts) (U2 m us) sort = λ e. sym (sort (sym e))
   sort_back (U4 n ts) (U4 m us) sort = λ e. sym (sort (sym e))
-  sort_back (Run x) (Run y) sort = sym sort
+  sort_back (U8 n ts) (U8 m us) sort = λ e. sym (sort (sym e))
+  sort_back (Run x ts) (Run y us) sort = (sym sort.0, λ e. sym (sort.1 (sym e)))
   sort_back (Nested v) (Nested w) sort = tt
   sort_back _ _ sort = absurd sort
 

@@ -2,8 +2,8 @@
 use Rattle.std.proofs.Common.{◌≡◌, ℕ, Bool, true, false, ◌&&◌, nat_le, inl, inr, List, [], ◌∷◌, ◌++◌, length, take, drop, refl, sym, ap, ◌∙◌, ◌↔◌, arith, append_assoc, take-append-drop}
 use Rattle.std.specs.List.{flat_map, AllByRecursion, fold}
 use Rattle.std.proofs.lemmas.Bool.Decides.{nat_tests}
-use Rattle.je_base.specs.Text.{IsContinuation, IsUnit, IsModifiedUtf8}
-use Rattle.je_base.specs.Units.{Begins, Follows, IsSingle, SkipsSingles, are_singles}
+use Rattle.je_base.specs.Text.{IsSingle, IsContinuation, IsUnit, IsModifiedUtf8}
+use Rattle.je_base.specs.Units.{Begins, Follows, SkipsSingles, are_singles}
 
 -- where so many continuations are wanted, these bytes may stand to the end of a text
 abbrev pub Completes : ℕ → List ℕ → Type 0
@@ -44,11 +44,11 @@ IsModifiedUtf8-completes bytes h = IsModifiedUtf8-splits bytes (Splits-completes
 completes_units : (units : List (List ℕ)) → AllByRecursion IsUnit units → Completes 0 (flat_map (λ unit. unit) units)
 completes_units [] h = refl
 completes_units ([] ∷ units) h = absurd h.0
-completes_units ((a ∷ []) ∷ units) h = (0, inl (refl, inl (refl, h.0.0, h.0.1)), completes_units units h.1)
+completes_units ((a ∷ []) ∷ units) h = (0, inl (refl, inl (refl, h.0)), completes_units units h.1)
 completes_units ((a ∷ b ∷ []) ∷ units) h =
-    (1, inl (refl, inr (inl (refl, h.0.0, h.0.1))), (0, inr (refl, h.0.2), completes_units units h.1))
+    (1, inl (refl, inr (inl (refl, h.0.0))), (0, inr (refl, h.0.1), completes_units units h.1))
 completes_units ((a ∷ b ∷ c ∷ []) ∷ units) h =
-    (2, inl (refl, inr (inr (refl, h.0.0, h.0.1))), (1, inr (refl, h.0.2), (0, inr (refl, h.0.3), completes_units units h.1)))
+    (2, inl (refl, inr (inr (refl, h.0.0))), (1, inr (refl, h.0.1), (0, inr (refl, h.0.2), completes_units units h.1)))
 completes_units ((a ∷ b ∷ c ∷ d ∷ r) ∷ units) h = absurd h.0
 
 -- and the other way round
@@ -68,7 +68,7 @@ completes_after wanted b after rest f =
 pub completes_singles : (front left : List ℕ) → AllByRecursion IsSingle front → Completes 0 (front ++ left) ↔ Completes 0 left
 completes_singles [] left h = (λ x. x, λ x. x)
 completes_singles (b ∷ front) left h =
-    let one = completes_after 0 b 0 (front ++ left) (inl (refl, inl (refl, h.0.0, h.0.1))) in
+    let one = completes_after 0 b 0 (front ++ left) (inl (refl, inl (refl, h.0))) in
     let more = completes_singles front left h.1 in
     (λ x. more.0 (one.0 x), λ x. one.1 (more.1 x))
 

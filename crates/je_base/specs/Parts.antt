@@ -3,21 +3,23 @@
 use Rattle.std.specs.Prelude.{◌≡◌, ℕ, ◌+◌, ◌^◌, ◌<◌, ◌⊎◌, List, [], ◌∷◌, ◌++◌, length, drop}
 use Rattle.std.specs.Prelude.{Result, Ok, Err}
 use Rattle.std.specs.List.{AllByRecursion}
-use Rattle.je_base.specs.Bytes.{u1, u2, u4, IsThere}
+use Rattle.je_base.specs.Bytes.{u1, u2, u4, u8, IsThere}
 
 -- ---- parts
 
--- a number of one, two or four bytes with its tests in order, a run of bytes, or a nested value
+-- a number of one, two, four or eight bytes or a run of bytes, each with its tests in order, or a
+-- nested value
 pub data Part (Test Value : Type 0) : Type 0 where
   U1 : (number : ℕ) (tests : List Test) → Part Test Value
   U2 : (number : ℕ) (tests : List Test) → Part Test Value
   U4 : (number : ℕ) (tests : List Test) → Part Test Value
-  Run : (bytes : List ℕ) → Part Test Value
+  U8 : (number : ℕ) (tests : List Test) → Part Test Value
+  Run : (bytes : List ℕ) (tests : List Test) → Part Test Value
   Nested : (value : Value) → Part Test Value
 
 -- What a format gives: when a test passes, and the fault where it does not, by the offset at which
--- its number begins; the fault of what is cut off at an offset; and the bytes of a nested value,
--- when it is sound, and why none stands at an offset.
+-- its number or run begins; the fault of what is cut off at an offset; and the bytes of a nested
+-- value, when it is sound, and why none stands at an offset.
 pub record Format (Test Value Fault : Type 0) : Type 1 where
   pub Passes : Test → Type 0
   pub fault_of : Test → ℕ → Fault
@@ -43,15 +45,17 @@ module _ {Test Value Fault : Type 0} (format : Format Test Value Fault) where
   part_bytes (U1 number tests) = u1 number
   part_bytes (U2 number tests) = u2 number
   part_bytes (U4 number tests) = u4 number
-  part_bytes (Run bytes) = bytes
+  part_bytes (U8 number tests) = u8 number
+  part_bytes (Run bytes tests) = bytes
   part_bytes (Nested value) = format.value_bytes value
 
-  -- the number fits its bytes and passes its tests; the nested value is sound
+  -- the number fits its bytes, and it or the run passes its tests; the nested value is sound
   abbrev pub IsSoundPart : Part Test Value → Type 0
   IsSoundPart (U1 number tests) = (number < 2 ^ 8) × AllByRecursion format.Passes tests
   IsSoundPart (U2 number tests) = (number < 2 ^ 16) × AllByRecursion format.Passes tests
   IsSoundPart (U4 number tests) = (number < 2 ^ 32) × AllByRecursion format.Passes tests
-  IsSoundPart (Run bytes) = Unit {0}
+  IsSoundPart (U8 number tests) = (number < 2 ^ 64) × AllByRecursion format.Passes tests
+  IsSoundPart (Run bytes tests) = AllByRecursion format.Passes tests
   IsSoundPart (Nested value) = format.IsSoundValue value
 
   -- the bytes of the parts, one after the other
@@ -65,7 +69,7 @@ module _ {Test Value Fault : Type 0} (format : Format Test Value Fault) where
   abbrev pub IsCut : List ℕ → ℕ → ℕ → Fault → Type 0
   IsCut bytes at size fault = (length (drop at bytes) < size) × (fault ≡ format.cut at)
 
-  -- the first of the tests that does not pass, of a number that begins at this offset
+  -- the first of the tests that does not pass, of a number or run that begins at this offset
   pub record FailsFirst (at : ℕ) (tests : List Test) (fault : Fault) : Type 0 where
     pub passed : List Test
     pub failed : Test
@@ -75,7 +79,7 @@ module _ {Test Value Fault : Type 0} (format : Format Test Value Fault) where
     pub fails : format.Passes failed → ⊥
     pub fault_is : fault ≡ format.fault_of failed at
 
-  -- why a part does not stand at an offset: it is cut off, or a test of its number fails
+  -- why a part does not stand at an offset: it is cut off, or one of its tests fails
   abbrev pub IsPartFault : List ℕ → ℕ → Part Test Value → Fault → Type 0
   IsPartFault bytes at (U1 number tests) fault =
       IsCut bytes at 1 fault
@@ -86,7 +90,11 @@ module _ {Test Value Fault : Type 0} (format : Format Test Value Fault) where
   IsPartFault bytes at (U4 number tests) fault =
       IsCut bytes at 4 fault
       ⊎ (IsThere bytes at (u4 number) × (number < 2 ^ 32) × FailsFirst at tests fault)
-  IsPartFault bytes at (Run run) fault = IsCut bytes at (length run) fault
+  IsPartFault bytes at (U8 number tests) fault =
+      IsCut bytes at 8 fault
+      ⊎ (IsThere bytes at (u8 number) × (number < 2 ^ 64) × FailsFirst at tests fault)
+  IsPartFault bytes at (Run run tests) fault =
+      IsCut bytes at (length run) fault ⊎ (IsThere bytes at run × FailsFirst at tests fault)
   IsPartFault bytes at (Nested value) fault = format.IsValueFault bytes at fault
 
   -- ---- from left to right
@@ -123,13 +131,15 @@ module _ {Test Value Fault : Type 0} (format : Format Test Value Fault) where
 
 -- ---- one way to read
 
--- parts of one sort: numbers of one size, with the same tests where they are the same, runs of one
--- length, nested values
+-- parts of one sort: numbers of one size or runs of one length, with the same tests where they are
+-- the same; nested values
 abbrev pub IsSameSort : {Test Value : Type 0} → Part Test Value → Part Test Value → Type 0
 IsSameSort (U1 m tests) (U1 n others) = m ≡ n → tests ≡ others
 IsSameSort (U2 m tests) (U2 n others) = m ≡ n → tests ≡ others
 IsSameSort (U4 m tests) (U4 n others) = m ≡ n → tests ≡ others
-IsSameSort (Run run) (Run other) = length run ≡ length other
+IsSameSort (U8 m tests) (U8 n others) = m ≡ n → tests ≡ others
+IsSameSort (Run run tests) (Run other others) =
+    (length run ≡ length other) × (run ≡ other → tests ≡ others)
 IsSameSort (Nested value) (Nested other) = Unit {0}
 IsSameSort _ _ = ⊥
 

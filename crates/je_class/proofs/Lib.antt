@@ -1,6 +1,6 @@
 pub mod Alls
 pub mod Changes
-pub mod Written
+pub mod Spelled
 pub mod Sounds
 pub mod Zips
 pub mod Comes

@@ -1,6 +1,7 @@
 -- Bytes are one class file or have one first fault.
 use Rattle.std.proofs.Common.{◌≡◌, ℕ, ◌<◌, ◌≤◌, List, length, refl, arith}
 use Rattle.je_base.specs.Parts.{OneWay}
+use Rattle.je_class.specs.declared.fault.TheConstants.{MOST_BYTES}
 use Rattle.je_class.specs.declared.fault.ClassFault.{ClassFault}
 use Rattle.je_class.specs.declared.fault.ClassFault.TheVariants.{TooLong}
 use Rattle.je_class.specs.Class.{Class}
@@ -13,12 +14,12 @@ module _ (way : OneWay class_format) (bytes : List ℕ) where
   pub same_class : (c d : Class) → ClassBytes bytes c → ClassBytes bytes d → c ≡ d
   same_class c d h k = (stands_only bytes c (length bytes) (stands_all bytes c h) way d k).0
 
-  pub class_no_fault : (c : Class) (d : ClassFault) → length bytes ≤ 16777216 → ClassBytes bytes c → FirstFault bytes d → ⊥
+  pub class_no_fault : (c : Class) (d : ClassFault) → length bytes ≤ MOST_BYTES → ClassBytes bytes c → FirstFault bytes d → ⊥
   class_no_fault c d within h first =
       let more = (stands_fault bytes c (length bytes) (stands_all bytes c h) way d within first).0 in
       omega arith
 
-  too_long_alone : (e : ClassFault) → 16777216 < length bytes → FirstFault bytes e → TooLong ≡ e
+  too_long_alone : (e : ClassFault) → MOST_BYTES < length bytes → FirstFault bytes e → TooLong ≡ e
   too_long_alone _ more (too_long other) = refl
   too_long_alone _ more (breaks magic c e within h) = absurd (omega arith)
   too_long_alone _ more (trailing c front rest within whole some h) = absurd (omega arith)

@@ -12,7 +12,7 @@ use Rattle.je_class.specs.declared.fault.ClassFault.{ClassFault}
 use Rattle.je_class.specs.declared.member.Attribute.{Attribute}
 use Rattle.je_class.specs.declared.member.Member.{Member}
 use Rattle.je_class.specs.Class.{Class}
-use Rattle.je_class.specs.FileParts.{Test, IsMagic, IsVersion, NamesClass, NamesSuper, NamesText, NamesAttribute, DescribesField, DescribesMethod, pool_fault, class_format, Part, interface_parts, attribute_parts, member_parts, field_parts, method_parts, parts}
+use Rattle.je_class.specs.FileParts.{Test, IsMagic, IsVersion, NamesClass, NamesSuper, NamesText, NamesAttribute, DescribesField, DescribesMethod, pool_fault, class_format, Part, interface_parts, attribute_parts, member_parts, field_parts, method_parts, own_parts, lists_parts, parts}
 use Rattle.je_class.specs.Reading.{Comes}
 use Rattle.je_class.proofs.Same.{same_attribute, same_member, same_class}
 
@@ -36,16 +36,14 @@ module _ {A : Type 0} (parts : A → List Part) (one : (x y : A) → AreOneLayou
 -- the access flags and what comes after them, whose indexes are of this constant pool
 abbrev rest_parts : List Place → Class → List Part
 rest_parts consts c =
-    U2 c.access [] ∷ U2 c.this_class (NamesClass consts c.this_class ∷ []) ∷ U2 c.super_class (NamesSuper consts c.super_class ∷ [])
-    ∷ (table_parts (interface_parts consts) c.interfaces ++ (table_parts (field_parts consts) c.fields
-    ++ (table_parts (method_parts consts) c.methods ++ table_parts (attribute_parts consts) c.attributes)))
+    own_parts consts c.access c.this_class c.super_class ++ lists_parts consts c.interfaces c.fields c.methods c.attributes
 
 module _ (consts : List Place) where
   interface_one : (i j : ℕ) → AreOneLayout (interface_parts consts i) (interface_parts consts j)
   interface_one i j = (λ e. ap (λ (n : ℕ). NamesClass consts n ∷ []) e, λ e. tt)
 
   attribute_one : (a b : Attribute) → AreOneLayout (attribute_parts consts a) (attribute_parts consts b)
-  attribute_one a b = (λ e. ap (λ (n : ℕ). NamesAttribute consts n ∷ []) e, λ name. (λ e. refl, λ e. let len : length a.bytes ≡ length b.bytes = cc in (len, λ run. tt)))
+  attribute_one a b = (λ e. ap (λ (n : ℕ). NamesAttribute consts n ∷ []) e, λ name. (λ e. refl, λ e. let len : length a.bytes ≡ length b.bytes = cc in ((len, λ e. refl), λ run. tt)))
 
   field_one : (m n : Member) → AreOneLayout (field_parts consts m) (field_parts consts n)
   field_one m n = (
@@ -108,7 +106,7 @@ module _ (xs ys : List Part) where
   u4_heads : (n m : ℕ) (ts us : List Test) → U4 n ts ∷ xs ≡ U4 m us ∷ ys → (n ≡ m) × (xs ≡ ys)
   u4_heads n m ts us e = (cc, cc)
 
-  run_heads : (run other : List ℕ) → Run run ∷ xs ≡ Run other ∷ ys → (run ≡ other) × (xs ≡ ys)
+  run_heads : (run other : List ℕ) → Run run [] ∷ xs ≡ Run other [] ∷ ys → (run ≡ other) × (xs ≡ ys)
   run_heads run other e = (cc, cc)
 
   pool_heads : (places others : List Place) → Nested places ∷ xs ≡ Nested others ∷ ys → (places ≡ others) × (xs ≡ ys)
@@ -145,34 +143,34 @@ module _ (consts : List Place) where
   attribute_decides : Decides (attribute_parts consts)
   attribute_decides = record {
     one = λ a b us vs e.
-        let name = u2_heads (U4 (length a.bytes) [] ∷ Run a.bytes ∷ us) (U4 (length b.bytes) [] ∷ Run b.bytes ∷ vs) a.name b.name (NamesAttribute consts a.name ∷ []) (NamesAttribute consts b.name ∷ []) e in
-        let len = u4_heads (Run a.bytes ∷ us) (Run b.bytes ∷ vs) (length a.bytes) (length b.bytes) [] [] name.1 in
+        let name = u2_heads (U4 (length a.bytes) [] ∷ Run a.bytes [] ∷ us) (U4 (length b.bytes) [] ∷ Run b.bytes [] ∷ vs) a.name b.name (NamesAttribute consts a.name ∷ []) (NamesAttribute consts b.name ∷ []) e in
+        let len = u4_heads (Run a.bytes [] ∷ us) (Run b.bytes [] ∷ vs) (length a.bytes) (length b.bytes) [] [] name.1 in
         let run = run_heads us vs a.bytes b.bytes len.1 in
         (same_attribute a b name.0 run.0, run.1);
   }
 
-  abbrev after_name : (Member → Test) → Member → List Part → List Part
-  after_name describes m us = U2 m.descriptor (NamesText consts m.descriptor ∷ describes m ∷ []) ∷ (table_parts (attribute_parts consts) m.attributes ++ us)
+  abbrev after_name : (Member → List Test) → Member → List Part → List Part
+  after_name tests m us = U2 m.descriptor (tests m) ∷ (table_parts (attribute_parts consts) m.attributes ++ us)
 
-  abbrev after_access : (Member → Test) → Member → List Part → List Part
-  after_access describes m us = U2 m.name (NamesText consts m.name ∷ []) ∷ after_name describes m us
+  abbrev after_access : (Member → List Test) → Member → List Part → List Part
+  after_access tests m us = U2 m.name (NamesText consts m.name ∷ []) ∷ after_name tests m us
 
-  member_decides : (describes : Member → Test) → Decides (λ m. member_parts consts (describes m) m)
-  member_decides describes = record {
+  member_decides : (tests : Member → List Test) → Decides (λ m. member_parts consts (tests m) m)
+  member_decides tests = record {
     one = λ m n us vs e.
-        let access = u2_heads (after_access describes m us) (after_access describes n vs) m.access n.access [] [] e in
-        let name = u2_heads (after_name describes m us) (after_name describes n vs) m.name n.name (NamesText consts m.name ∷ []) (NamesText consts n.name ∷ []) access.1 in
+        let access = u2_heads (after_access tests m us) (after_access tests n vs) m.access n.access [] [] e in
+        let name = u2_heads (after_name tests m us) (after_name tests n vs) m.name n.name (NamesText consts m.name ∷ []) (NamesText consts n.name ∷ []) access.1 in
         let descriptor = u2_heads (table_parts (attribute_parts consts) m.attributes ++ us) (table_parts (attribute_parts consts) n.attributes ++ vs) m.descriptor n.descriptor
-        (NamesText consts m.descriptor ∷ describes m ∷ []) (NamesText consts n.descriptor ∷ describes n ∷ []) name.1 in
+        (tests m) (tests n) name.1 in
         let attributes = (table_decides (attribute_parts consts) attribute_decides).one m.attributes n.attributes us vs descriptor.1 in
         (same_member m n access.0 name.0 descriptor.0 attributes.0, attributes.1);
   }
 
   field_decides : Decides (field_parts consts)
-  field_decides = member_decides (λ m. DescribesField consts m.descriptor)
+  field_decides = member_decides (λ m. NamesText consts m.descriptor ∷ DescribesField consts m.descriptor ∷ [])
 
   method_decides : Decides (method_parts consts)
-  method_decides = member_decides (λ m. DescribesMethod consts m.access m.descriptor)
+  method_decides = member_decides (λ m. NamesText consts m.descriptor ∷ DescribesMethod consts m.access m.descriptor ∷ [])
 
   record SameRest (c d : Class) : Type 0 where
     pub access : c.access ≡ d.access

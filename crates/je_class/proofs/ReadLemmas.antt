@@ -4,6 +4,8 @@ use Rattle.std.specs.List.{AllByRecursion}
 use Rattle.std.proofs.lemmas.List.{append-nil, drop_all, drop_at, drop-drop}
 use Rattle.je_base.specs.Bytes.{IsThere}
 use Rattle.je_base.specs.Parts.{part_bytes, IsSoundPart, Follows, OneWay}
+use Rattle.je_class.specs.declared.fault.TheConstants.{MOST_BYTES}
+use Rattle.je_class.specs.declared.parts.TheConstants.{MAGIC}
 use Rattle.je_class.specs.declared.fault.ClassFault.{ClassFault}
 use Rattle.je_class.specs.declared.fault.ClassFault.TheVariants.{Trailing, Memory}
 use Rattle.je_class.specs.Class.{Class}
@@ -77,7 +79,7 @@ module _ (bytes : List ℕ) (c : Class) (end : ℕ) (h : Stands bytes c end) whe
       let none : drop end bytes ≡ [] = drop_all end bytes all in
       record { layout = spells.bytes_are ∙ ap (λ (t : List ℕ). text ++ t) none ∙ append-nil text; sound = record { parts = stands_sound } }
 
-  pub stands_trailing : length bytes ≤ 16777216 → end < length bytes → FirstFault bytes (Trailing end)
+  pub stands_trailing : length bytes ≤ MOST_BYTES → end < length bytes → FirstFault bytes (Trailing end)
   stands_trailing within more =
       let ends : length text ≡ end = omega (arith, spells.end_is) in
       let some : drop end bytes ≢ [] = λ e. omega (arith, ap length e, length-drop end bytes) in
@@ -86,29 +88,29 @@ module _ (bytes : List ℕ) (c : Class) (end : ℕ) (h : Stands bytes c end) whe
   -- ---- no other answer
 
   pub stands_only : (way : OneWay class_format) (d : Class) → ClassBytes bytes d → (c ≡ d) × (end ≡ length bytes)
-  stands_only way d k = one_class way bytes 0xcafe_babe 0xcafe_babe c d (Ok end) (Ok (length bytes)) h (stands_all bytes d k)
+  stands_only way d k = one_class way bytes MAGIC MAGIC c d (Ok end) (Ok (length bytes)) h (stands_all bytes d k)
 
   -- the end of a class file and what follows it are the first fault, or there is none
-  pub stands_fault : (way : OneWay class_format) (d : ClassFault) → length bytes ≤ 16777216 → FirstFault bytes d → (end < length bytes) × (Trailing end ≡ d)
+  pub stands_fault : (way : OneWay class_format) (d : ClassFault) → length bytes ≤ MOST_BYTES → FirstFault bytes d → (end < length bytes) × (Trailing end ≡ d)
   stands_fault way _ within (too_long more) = absurd (omega arith)
-  stands_fault way _ within (breaks magic e d le b) = absurd (one_class way bytes 0xcafe_babe magic c e (Ok end) (Err d) h (record { goes = b }))
+  stands_fault way _ within (breaks magic e d le b) = absurd (one_class way bytes MAGIC magic c e (Ok end) (Err d) h (record { goes = b }))
   stands_fault way _ within (trailing e front rest le whole some k) =
-      let same = one_class way bytes 0xcafe_babe 0xcafe_babe c e (Ok end) (Ok (length front)) h (stands_front bytes e front rest whole k) in
+      let same = one_class way bytes MAGIC MAGIC c e (Ok end) (Ok (length front)) h (stands_front bytes e front rest whole k) in
       let more = longer front rest some in
       (omega (arith, same.1, ap length whole), ap (λ (n : ℕ). Trailing n) same.1)
 
 module _ (bytes : List ℕ) (magic : ℕ) (c : Class) (e : ClassFault) (h : Comes bytes 0 (parts magic c) (Err e)) where
-  pub breaks_first : length bytes ≤ 16777216 → FirstFault bytes e
+  pub breaks_first : length bytes ≤ MOST_BYTES → FirstFault bytes e
   breaks_first within = breaks magic c e within h.goes
 
   pub breaks_only : (way : OneWay class_format) (d : Class) → ClassBytes bytes d → ⊥
-  breaks_only way d k = one_class way bytes magic 0xcafe_babe c d (Err e) (Ok (length bytes)) h (stands_all bytes d k)
+  breaks_only way d k = one_class way bytes magic MAGIC c d (Err e) (Ok (length bytes)) h (stands_all bytes d k)
 
-  pub breaks_fault : (way : OneWay class_format) (d : ClassFault) → length bytes ≤ 16777216 → FirstFault bytes d → e ≡ d
+  pub breaks_fault : (way : OneWay class_format) (d : ClassFault) → length bytes ≤ MOST_BYTES → FirstFault bytes d → e ≡ d
   breaks_fault way _ within (too_long more) = absurd (omega arith)
   breaks_fault way _ within (breaks other f d le b) = one_class way bytes magic other c f (Err e) (Err d) h (record { goes = b })
   breaks_fault way _ within (trailing f front rest le whole some k) =
-      absurd (one_class way bytes magic 0xcafe_babe c f (Err e) (Ok (length front)) h (stands_front bytes f front rest whole k))
+      absurd (one_class way bytes magic MAGIC c f (Err e) (Ok (length front)) h (stands_front bytes f front rest whole k))
 
 -- ---- a fault that reading gives
 
@@ -121,10 +123,10 @@ module _ (bytes : List ℕ) (e : ClassFault) where
   fault_only way (inl memory) d k = memory
   fault_only way (inr h) d k = absurd (breaks_only bytes h.0 h.1 e h.2 way d k)
 
-  pub fault_first : length bytes ≤ 16777216 → IsFault bytes e → (e ≡ Memory) ⊎ FirstFault bytes e
+  pub fault_first : length bytes ≤ MOST_BYTES → IsFault bytes e → (e ≡ Memory) ⊎ FirstFault bytes e
   fault_first within (inl memory) = inl memory
   fault_first within (inr h) = inr (breaks_first bytes h.0 h.1 e h.2 within)
 
-  pub fault_exact : OneWay class_format → length bytes ≤ 16777216 → IsFault bytes e → (d : ClassFault) → FirstFault bytes d → (e ≡ Memory) ⊎ (e ≡ d)
+  pub fault_exact : OneWay class_format → length bytes ≤ MOST_BYTES → IsFault bytes e → (d : ClassFault) → FirstFault bytes d → (e ≡ Memory) ⊎ (e ≡ d)
   fault_exact way within (inl memory) d first = inl memory
   fault_exact way within (inr h) d first = inr (breaks_fault bytes h.0 h.1 e h.2 way d within first)

@@ -16,6 +16,8 @@ use Rattle.je_consts.specs.Layout.{IsPoolAt}
 use Rattle.je_consts.specs.Pool.{text_at, class_at}
 use Rattle.je_desc.specs.Descriptor.{FieldDescriptor, IsDescriptorOf}
 use Rattle.je_desc.specs.Names.{IsClassName}
+use Rattle.je_class.specs.declared.fault.TheConstants.{MOST_BYTES}
+use Rattle.je_class.specs.declared.parts.TheConstants.{MAGIC}
 use Rattle.je_class.specs.declared.fault.ClassFault.{ClassFault}
 use Rattle.je_class.specs.declared.fault.ClassFault.TheVariants.{TooLong, Truncated, Trailing}
 use Rattle.je_class.specs.declared.member.Attribute.{Attribute}
@@ -23,8 +25,8 @@ use Rattle.je_class.specs.declared.member.Member.{Member}
 use Rattle.je_class.specs.Class.{Class}
 use Rattle.je_class.specs.ClassBytes.{ClassBytes}
 use Rattle.je_class.specs.Faults.{FirstFault, too_long, breaks}
-use Rattle.je_class.specs.FileParts.{Test, IsMagic, IsVersion, NamesClass, NamesSuper, NamesText, NamesAttribute, DescribesField, DescribesMethod, Passes, fault_of, pool_fault, class_format, Part, interface_parts, attribute_parts, member_parts, field_parts, method_parts, parts}
-use Rattle.je_class.specs.Reading.{Comes, start_parts, own_parts, lists_parts}
+use Rattle.je_class.specs.FileParts.{Test, IsMagic, IsVersion, NamesClass, NamesSuper, NamesText, NamesAttribute, DescribesField, DescribesMethod, Passes, fault_of, pool_fault, class_format, Part, interface_parts, attribute_parts, member_parts, field_parts, method_parts, start_parts, own_parts, lists_parts, parts}
+use Rattle.je_class.specs.Reading.{Comes}
 use Rattle.je_class.proofs.Comes.{then, stops, comes_within, u2_comes, u4_comes, u2_cut, u4_cut, u2_fails, u4_fails, pool_comes, first_fails}
 use Rattle.je_class.proofs.ReadLemmas.{stands_whole, stands_trailing}
 use Rattle.je_class.proofs.Same.{class_of}
@@ -66,7 +68,7 @@ is_version major =
 
 module _ (decided : Decisions) where
   passes : (test : Test) → Decided (Passes test)
-  passes (IsMagic number) = is_number number 0xcafe_babe
+  passes (IsMagic number) = is_number number MAGIC
   passes (IsVersion major) = is_version major
   passes (NamesClass consts index) = some_and IsClassName decided.class_name (class_at consts index)
   passes (NamesSuper consts index) =
@@ -220,9 +222,9 @@ module _ (bytes : List ℕ) (fits : IsBytes bytes) where
       attribute : Answers (attribute_parts consts)
       attribute at within =
           elim (two (λ n. NamesAttribute consts n ∷ []) at within) [
-            | inr h ↦ inr (record { name = h.0; bytes = [] }, h.1, stops (U4 0 [] ∷ Run [] ∷ []) h.2)
+            | inr h ↦ inr (record { name = h.0; bytes = [] }, h.1, stops (U4 0 [] ∷ Run [] [] ∷ []) h.2)
             | inl h ↦ elim (u4_at h.1) [
-              | inl short ↦ inr (record { name = h.0; bytes = [] }, Truncated h.1, then h.2 (stops (Run [] ∷ []) (u4_cut 0 [] (short, refl))))
+              | inl short ↦ inr (record { name = h.0; bytes = [] }, Truncated h.1, then h.2 (stops (Run [] [] ∷ []) (u4_cut 0 [] (short, refl))))
               | inr n ↦
                   let start = h.1 + 4 in
                   elim (cases_lt (length (drop start bytes)) n.0) [
@@ -231,18 +233,18 @@ module _ (bytes : List ℕ) (fits : IsBytes bytes) where
                         let run = take n.0 (drop start bytes) in
                         let len : length run ≡ n.0 = omega (arith, length-take n.0 (drop start bytes)) in
                         let counted : Comes bytes h.1 (U4 (length run) [] ∷ []) (Ok start) = u4_comes (rw len n.1) refl (rw len n.2) tt in
-                        let stands : Comes bytes start (Run run ∷ []) (Ok (start + length run)) = record { goes = (front_there run start n.0 refl (sym len), tt, refl) } in
+                        let stands : Comes bytes start (Run run [] ∷ []) (Ok (start + length run)) = record { goes = (front_there run start n.0 refl (sym len), tt, refl) } in
                         inl (record { name = h.0; bytes = run }, start + length run, then h.2 (then counted stands))
                   ]
             ]
           ]
 
-      member : (describes : ℕ → ℕ → Test) → Answers (λ (m : Member). member_parts consts (describes m.access m.descriptor) m)
-      member describes =
+      member : (tests : ℕ → ℕ → List Test) → Answers (λ (m : Member). member_parts consts (tests m.access m.descriptor) m)
+      member tests =
           seen_as _ _ (λ (m : ℕ × (ℕ × (ℕ × List Attribute))). record { access = m.0; name = m.1.0; descriptor = m.1.1.0; attributes = m.1.1.1 }) (λ m. refl)
           (both _ _ (0, (0, [])) (two (λ n. []))
           (λ access. both _ _ (0, []) (two (λ name. NamesText consts name ∷ []))
-          (λ name. both _ (λ descriptor. table_parts (attribute_parts consts)) [] (two (λ descriptor. NamesText consts descriptor ∷ describes access descriptor ∷ []))
+          (λ name. both _ (λ descriptor. table_parts (attribute_parts consts)) [] (two (λ descriptor. tests access descriptor))
           (λ descriptor. table (attribute_parts consts) attribute))))
 
     -- ---- the class file
@@ -255,12 +257,12 @@ module _ (bytes : List ℕ) (fits : IsBytes bytes) where
             | inr h ↦ inr ([], pool_fault h.0, record { goes = inl (h.0, h.1, refl) })
           ]
 
-      start : Answers (λ (s : ℕ × (ℕ × ℕ)). start_parts (s.0, s.1.0, s.1.1))
+      start : Answers (λ (s : ℕ × (ℕ × ℕ)). start_parts s.0 s.1.0 s.1.1)
       start =
           both _ _ (0, 0) (four (λ magic. IsMagic magic ∷ []))
           (λ magic. both _ (λ minor major. U2 major (IsVersion major ∷ []) ∷ []) 0 (two (λ minor. [])) (λ minor. two (λ major. IsVersion major ∷ [])))
 
-      own : (consts : List Place) → Answers (λ (o : ℕ × (ℕ × ℕ)). own_parts consts (o.0, o.1.0, o.1.1))
+      own : (consts : List Place) → Answers (λ (o : ℕ × (ℕ × ℕ)). own_parts consts o.0 o.1.0 o.1.1)
       own consts =
           both _ _ (0, 0) (two (λ access. []))
           (λ access. both _ (λ class super. U2 super (NamesSuper consts super ∷ []) ∷ []) 0 (two (λ class. NamesClass consts class ∷ [])) (λ class. two (λ super. NamesSuper consts super ∷ [])))
@@ -268,11 +270,11 @@ module _ (bytes : List ℕ) (fits : IsBytes bytes) where
       abbrev Lists : Type 0
       Lists = List ℕ × (List Member × (List Member × List Attribute))
 
-      lists : (consts : List Place) → Answers (λ (l : Lists). lists_parts consts (l.0, l.1.0, l.1.1.0, l.1.1.1))
+      lists : (consts : List Place) → Answers (λ (l : Lists). lists_parts consts l.0 l.1.0 l.1.1.0 l.1.1.1)
       lists consts =
           both _ _ ([], ([], [])) (table (interface_parts consts) (two (λ index. NamesClass consts index ∷ [])))
-          (λ interfaces. both _ _ ([], []) (table (field_parts consts) (member consts (λ access descriptor. DescribesField consts descriptor)))
-          (λ fields. both _ (λ methods attributes. table_parts (attribute_parts consts) attributes) [] (table (method_parts consts) (member consts (λ access descriptor. DescribesMethod consts access descriptor)))
+          (λ interfaces. both _ _ ([], []) (table (field_parts consts) (member consts (λ access descriptor. NamesText consts descriptor ∷ DescribesField consts descriptor ∷ [])))
+          (λ fields. both _ (λ methods attributes. table_parts (attribute_parts consts) attributes) [] (table (method_parts consts) (member consts (λ access descriptor. NamesText consts descriptor ∷ DescribesMethod consts access descriptor ∷ [])))
           (λ methods. table (attribute_parts consts) (attribute consts))))
 
       abbrev Whole : Type 0
@@ -289,11 +291,11 @@ module _ (bytes : List ℕ) (fits : IsBytes bytes) where
           seen_as _ _ (λ (w : Whole). (magic_of w, whole_class w)) (λ w. refl)
           (both _ _ ([], ((0, (0, 0)), ([], ([], ([], []))))) start
           (λ s. both _ _ ((0, (0, 0)), ([], ([], ([], [])))) pool
-          (λ consts. both _ (λ (o : ℕ × (ℕ × ℕ)) (l : Lists). lists_parts consts (l.0, l.1.0, l.1.1.0, l.1.1.1)) ([], ([], ([], []))) (own consts) (λ o. lists consts))))
+          (λ consts. both _ (λ (o : ℕ × (ℕ × ℕ)) (l : Lists). lists_parts consts l.0 l.1.0 l.1.1.0 l.1.1.1) ([], ([], ([], []))) (own consts) (λ o. lists consts))))
 
-      pub some_answer : ((c : Class) × ClassBytes bytes c × (length bytes ≤ 16777216)) ⊎ ((d : ClassFault) × FirstFault bytes d)
+      pub some_answer : ((c : Class) × ClassBytes bytes c × (length bytes ≤ MOST_BYTES)) ⊎ ((d : ClassFault) × FirstFault bytes d)
       some_answer =
-          elim (cases_lt 16777216 (length bytes)) [
+          elim (cases_lt MOST_BYTES (length bytes)) [
             | inl more ↦ inr (TooLong, too_long more)
             | inr within ↦ elim (class 0 (omega arith)) [
               | inr h ↦ inr (h.1, breaks h.0.0 h.0.1 h.1 within h.2.goes)

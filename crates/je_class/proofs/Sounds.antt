@@ -6,7 +6,7 @@ use Rattle.je_class.specs.declared.member.Attribute.{Attribute}
 use Rattle.je_class.specs.Class.{Class, IsClassIndex}
 use Rattle.je_base.specs.Parts.{IsSoundPart, table_parts}
 use Rattle.je_class.specs.FileParts.{class_format, Part, interface_parts, attribute_parts, field_parts, method_parts, IsSound}
-use Rattle.je_class.specs.Layout.{FitsTable, FitsAttribute, FitsMember, FitsClass}
+use Rattle.je_class.specs.Sizes.{FitsTable, FitsAttribute, FitsMember, FitsClass}
 use Rattle.je_class.specs.Signatures.{HasTexts}
 use Rattle.je_class.proofs.Alls.{all_split, all_each}
 

@@ -59,4 +59,4 @@ attribute_cut {bytes = bytes} {at = at} {start = start} {name = name} {len = len
     let zeros : List ℕ = copies len 0 in
     let e = length-copies {A = ℕ} len 0 in
     let length_stands = u4_comes (rw e there) start_is (rw e fits) tt in
-    (record { name = name; bytes = zeros }, then named (then length_stands (record { goes = inl (rw e short.0, ap Truncated short.1) })))
+    (record { name = name; bytes = zeros }, then named (then length_stands (record { goes = inl (inl (rw e short.0, ap Truncated short.1)) })))

@@ -15,6 +15,7 @@ use Rattle.je_class.specs.declared.fault.ClassFault.{ClassFault}
 use Rattle.je_class.specs.declared.fault.ClassFault.TheVariants.{Truncated, BadMagic, Version}
 use Rattle.je_class.specs.declared.fault.ClassFault.TheVariants.{BadConst, BadIndex, BadDescriptor}
 use Rattle.je_class.specs.declared.fault.ClassFault.TheVariants.{BadAttribute, Memory}
+use Rattle.je_class.specs.declared.parts.TheConstants.{MAGIC}
 use Rattle.je_class.specs.declared.member.Attribute.{Attribute}
 use Rattle.je_class.specs.declared.member.Member.{Member}
 use Rattle.je_class.specs.Class.{Class, IsClassIndex, IsTextIndex, IsDescriptorOf}
@@ -34,7 +35,7 @@ pub data Test : Type 0 where
   DescribesMethod : (consts : List Place) (access index : ℕ) → Test
 
 abbrev pub Passes : Test → Type 0
-Passes (IsMagic number) = number ≡ 0xcafe_babe
+Passes (IsMagic number) = number ≡ MAGIC
 Passes (IsVersion major) = (49 ≤ major) × (major ≤ 52)
 Passes (NamesClass consts index) = IsClassIndex consts index
 Passes (NamesSuper consts index) = (index ≡ 0) ⊎ IsClassIndex consts index
@@ -98,39 +99,58 @@ interface_parts consts index = U2 index (NamesClass consts index ∷ []) ∷ []
 -- attribute_info (JVMS 4.7)
 abbrev pub attribute_parts : List Place → Attribute → List Part
 attribute_parts consts a =
-    U2 a.name (NamesAttribute consts a.name ∷ []) ∷ U4 (length a.bytes) [] ∷ Run a.bytes ∷ []
+    U2 a.name (NamesAttribute consts a.name ∷ []) ∷ U4 (length a.bytes) [] ∷ Run a.bytes [] ∷ []
 
--- what field_info and method_info have in common, but for the last test of the descriptor
-abbrev pub member_parts : List Place → Test → Member → List Part
-member_parts consts describes m =
-    U2 m.access [] ∷ U2 m.name (NamesText consts m.name ∷ [])
-    ∷ U2 m.descriptor (NamesText consts m.descriptor ∷ describes ∷ [])
+-- what field_info and method_info have in common, with the tests of the descriptor
+abbrev pub member_parts : List Place → List Test → Member → List Part
+member_parts consts tests m =
+    U2 m.access [] ∷ U2 m.name (NamesText consts m.name ∷ []) ∷ U2 m.descriptor tests
     ∷ table_parts (attribute_parts consts) m.attributes
 
 -- field_info (JVMS 4.5)
 abbrev pub field_parts : List Place → Member → List Part
-field_parts consts m = member_parts consts (DescribesField consts m.descriptor) m
+field_parts consts m =
+    member_parts consts
+    (NamesText consts m.descriptor ∷ DescribesField consts m.descriptor ∷ []) m
 
 -- method_info (JVMS 4.6)
 abbrev pub method_parts : List Place → Member → List Part
-method_parts consts m = member_parts consts (DescribesMethod consts m.access m.descriptor) m
+method_parts consts m =
+    member_parts consts
+    (NamesText consts m.descriptor ∷ DescribesMethod consts m.access m.descriptor ∷ []) m
 
 -- ---- the class file
+
+-- magic, minor_version and major_version
+abbrev pub start_parts : ℕ → ℕ → ℕ → List Part
+start_parts magic minor major =
+    U4 magic (IsMagic magic ∷ []) ∷ U2 minor [] ∷ U2 major (IsVersion major ∷ []) ∷ []
+
+-- access_flags, this_class and super_class
+abbrev pub own_parts : List Place → ℕ → ℕ → ℕ → List Part
+own_parts consts access this_class super_class =
+    U2 access [] ∷ U2 this_class (NamesClass consts this_class ∷ [])
+    ∷ U2 super_class (NamesSuper consts super_class ∷ []) ∷ []
+
+-- the tables, each behind its count
+abbrev pub lists_parts : List Place
+    → List ℕ → List Member → List Member → List Attribute → List Part
+lists_parts consts interfaces fields methods attributes =
+    table_parts (interface_parts consts) interfaces
+    ++ (table_parts (field_parts consts) fields
+    ++ (table_parts (method_parts consts) methods
+    ++ table_parts (attribute_parts consts) attributes))
 
 -- ClassFile (JVMS 4.1), with a number in the place of its magic
 abbrev pub parts : ℕ → Class → List Part
 parts magic c =
-    U4 magic (IsMagic magic ∷ []) ∷ U2 c.minor [] ∷ U2 c.major (IsVersion c.major ∷ [])
-    ∷ Nested c.consts
-    ∷ U2 c.access [] ∷ U2 c.this_class (NamesClass c.consts c.this_class ∷ [])
-    ∷ U2 c.super_class (NamesSuper c.consts c.super_class ∷ [])
-    ∷ (table_parts (interface_parts c.consts) c.interfaces
-    ++ (table_parts (field_parts c.consts) c.fields
-    ++ (table_parts (method_parts c.consts) c.methods
-    ++ table_parts (attribute_parts c.consts) c.attributes)))
+    start_parts magic c.minor c.major
+    ++ (Nested c.consts
+    ∷ (own_parts c.consts c.access c.this_class c.super_class
+    ++ lists_parts c.consts c.interfaces c.fields c.methods c.attributes))
 
 abbrev pub class_parts : Class → List Part
-class_parts c = parts 0xcafe_babe c
+class_parts c = parts MAGIC c
 
 -- Each number of the class file fits its bytes, and each index names what it has to.
 pub record IsSound (c : Class) : Type 0 where

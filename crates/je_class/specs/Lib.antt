@@ -3,7 +3,7 @@ pub mod FileParts
 pub mod ClassBytes
 pub mod Faults
 pub mod InMemory
-pub mod Layout
+pub mod Sizes
 pub mod Summed
 pub mod Words
 pub mod Signatures

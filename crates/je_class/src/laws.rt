@@ -13,6 +13,7 @@ ghost use Rattle.je_class.specs.FileParts.{Test, class_format, IsSound};
 ghost use Rattle.je_class.specs.Grown.{NamesStay};
 ghost use Rattle.je_class.specs.Indexed.{IsIndexOf};
 
+use crate::fault::MOST_BYTES;
 use je_base::{Parted, one_way};
 use je_consts::one_pool;
 use je_desc::each_is_decided;
@@ -44,11 +45,11 @@ pub fn one_class()
     ensures same { (bytes : List ℕ) (c d : Class) →
         ClassBytes bytes c → ClassBytes bytes d → c ≡ d }
     ensures no_fault { (bytes : List ℕ) (c : Class) (d : ClassFault) →
-        length bytes ≤ 16777216 → ClassBytes bytes c → FirstFault bytes d → ⊥ }
+        length bytes ≤ MOST_BYTES → ClassBytes bytes c → FirstFault bytes d → ⊥ }
     ensures one_fault { (bytes : List ℕ) (d e : ClassFault) →
         FirstFault bytes d → FirstFault bytes e → d ≡ e }
     ensures some_answer { (bytes : List ℕ) → ((i : ℕ) → slice_index bytes i < 2 ^ 8) →
-        ((c : Class) × ClassBytes bytes c × (length bytes ≤ 16777216))
+        ((c : Class) × ClassBytes bytes c × (length bytes ≤ MOST_BYTES))
         ⊎ ((d : ClassFault) × FirstFault bytes d) }
 {
     // The laws that the proof stands on.

@@ -3,6 +3,9 @@
 use crate::member::{Attribute, Member};
 use je_consts::Consts;
 
+/// The first number of each class file (JVMS 4.1, magic).
+pub(crate) const MAGIC: u32 = 0xcafe_babe;
+
 /// The items of a class file in the order of the file, whatever its indexes name.
 #[derive(Debug, Drop)]
 pub(crate) struct Parts {

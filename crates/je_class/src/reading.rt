@@ -3,12 +3,14 @@
 ghost use Rattle.std.specs.Prelude.{◌≡◌, ℕ, ◌≤◌, ◌⊎◌, ◌↔◌, ◌∷◌, [], List, length, IsTrue, IfOk, IfErr, OnOk, MatchResult};
 ghost use Rattle.je_base.specs.Parts.{Nested};
 ghost use Rattle.je_class.specs.declared.fault.ClassFault.{ClassFault};
+ghost use Rattle.je_class.specs.declared.member.Attribute.{Attribute};
+ghost use Rattle.je_class.specs.declared.member.Member.{Member};
 ghost use Rattle.je_class.specs.Class.{Class};
 ghost use Rattle.je_class.specs.ClassBytes.{ClassBytes};
-ghost use Rattle.je_class.specs.FileParts.{pool_fault};
+ghost use Rattle.je_class.specs.FileParts.{pool_fault, start_parts, own_parts, lists_parts};
 ghost use Rattle.je_class.specs.Faults.{FirstFault};
 ghost use Rattle.je_class.specs.InMemory.{class_of_parts};
-ghost use Rattle.je_class.specs.Reading.{Reads, ReadsClass, start_parts, own_parts, lists_parts};
+ghost use Rattle.je_class.specs.Reading.{Reads, ReadsClass};
 
 use crate::check::{Sought, index_at};
 use crate::class_file::ClassFile;
@@ -16,13 +18,10 @@ use crate::fault::{ClassFault, MOST_BYTES};
 use crate::laws::one_class_way;
 use crate::member::{Attribute, Member};
 use crate::members::{Kind, attributes_at, interfaces_at, members_at};
-use crate::parts::Parts;
+use crate::parts::{MAGIC, Parts};
 use je_base::{Run, u16_at, u32_at};
 use je_consts::{ConstFault, Consts};
 use std::alloc::Global;
-
-/// The first number of each class file.
-const MAGIC: u32 = 0xcafe_babe;
 
 /// Whether class files of this major version are read.
 fn is_version(major: u16) -> bool
@@ -33,7 +32,8 @@ fn is_version(major: u16) -> bool
 
 /// The minor and the major version, behind the magic, and the offset after them.
 fn start_at(bytes: &[u8]) -> Result<((u16, u16), usize), ClassFault>
-    ensures { Reads (λ x. ((MAGIC, x.0.0, x.0.1), x.1)) bytes.now 0 start_parts result }
+    ensures { Reads (λ x. ((MAGIC, x.0.0, x.0.1), x.1)) bytes.now 0
+        (λ (s : ℕ × ℕ × ℕ). start_parts s.0 s.1 s.2) result }
 {
     let (magic, at) = u32_at(bytes, 0)?;
     if magic != MAGIC {
@@ -76,7 +76,8 @@ fn pool_at(
 
 /// The access flags, and the indexes of the class and of its super class.
 fn own_at(consts: &Consts, bytes: &[u8], at: usize) -> Result<((u16, u16, u16), usize), ClassFault>
-    ensures { Reads (λ x. x) bytes.now at (own_parts consts.now) result }
+    ensures { Reads (λ x. x) bytes.now at
+        (λ (o : ℕ × ℕ × ℕ). own_parts consts.now o.0 o.1 o.2) result }
 {
     let (access, at) = u16_at(bytes, at)?;
     let (this_class, at) = index_at(consts, Sought::Class, bytes, at)?;
@@ -96,7 +97,8 @@ fn lists_at(
 ) -> Result<(Lists, usize), ClassFault>
     requires same { block.now ≡ bytes.now }
     ensures { Reads (λ x. ((x.0.0.items, x.0.1.items, x.0.2.items, x.0.3.items), x.1)) bytes.now at
-        (lists_parts consts.now) result }
+        (λ (l : List ℕ × List Member × List Member × List Attribute).
+        lists_parts consts.now l.0 l.1 l.2 l.3) result }
 {
     let (interfaces, at) = interfaces_at(alloc, consts, bytes, at)?;
     let (fields, at) = members_at(alloc, block, consts, Kind::Fields, bytes, at)?;

@@ -1,26 +1,27 @@
 //! The bytes of a class file (JVMS 4.1).
 
-ghost use Rattle.std.specs.Prelude.{◌≡◌, ℕ, ◌^◌, ◌<◌, List, ◌++◌, length, IfOk, OnOk};
-ghost use Rattle.je_base.specs.Bytes.{u2, table};
+ghost use Rattle.std.specs.Prelude.{◌≡◌, ℕ, ◌^◌, ◌<◌, List, [], ◌∷◌, ◌++◌, length, IfOk, OnOk};
+ghost use Rattle.je_base.specs.Parts.{Nested, table_parts};
+ghost use Rattle.je_consts.specs.declared.place.Place.{Place};
+ghost use Rattle.je_class.specs.declared.member.Member.{Member};
 ghost use Rattle.je_class.specs.ClassBytes.{ClassBytes};
 ghost use Rattle.je_class.specs.InMemory.{class_of_parts};
-ghost use Rattle.je_class.specs.Layout.{attribute_layout, member_layout, head_layout, numbers_layout, tables_layout, class_layout, FitsTable, FitsAttribute, FitsMember, FitsClass};
+ghost use Rattle.je_class.specs.FileParts.{Test, spelled, interface_parts, attribute_parts, member_parts, start_parts, own_parts, lists_parts, class_parts};
+ghost use Rattle.je_class.specs.Sizes.{FitsTable, FitsAttribute, FitsMember, FitsClass};
 
 use crate::class_file::ClassFile;
 use crate::member::{Attribute, LEAST_ATTRIBUTE, LEAST_MEMBER, Member};
-use crate::parts::Parts;
+use crate::parts::{MAGIC, Parts};
 use je_base::{Memory, put_u16, put_u32};
 use std::alloc::Global;
-
-/// The first bytes of each class file.
-const MAGIC: u32 = 0xcafe_babe;
 
 /// The bytes of the access flags, two indexes and the counts of four tables.
 const CLASS_NUMBERS: usize = 14;
 
 fn put_interfaces(out: &mut Vec<u8>, indexes: &[u16]) -> Result<(), Memory>
     requires { length indexes.now < 2 ^ 16 }
-    ensures { OnOk result (out.new.items ≡ out.old.items ++ table u2 indexes.now) }
+    ensures { (consts : List Place) → OnOk result (out.new.items
+        ≡ out.old.items ++ spelled (table_parts (interface_parts consts) indexes.now)) }
 {
     put_u16(out, indexes.len() as u16)?;
     for index in indexes {
@@ -31,7 +32,8 @@ fn put_interfaces(out: &mut Vec<u8>, indexes: &[u16]) -> Result<(), Memory>
 
 fn put_attribute(out: &mut Vec<u8>, attribute: &Attribute) -> Result<(), Memory>
     requires { FitsAttribute attribute.now }
-    ensures { OnOk result (out.new.items ≡ out.old.items ++ attribute_layout attribute.now) }
+    ensures { (consts : List Place) → OnOk result
+        (out.new.items ≡ out.old.items ++ spelled (attribute_parts consts attribute.now)) }
 {
     let bytes = attribute.bytes.as_slice();
     put_u16(out, attribute.name)?;
@@ -42,7 +44,8 @@ fn put_attribute(out: &mut Vec<u8>, attribute: &Attribute) -> Result<(), Memory>
 
 fn put_attributes(out: &mut Vec<u8>, attributes: &[Attribute]) -> Result<(), Memory>
     requires { FitsTable FitsAttribute attributes.now }
-    ensures { OnOk result (out.new.items ≡ out.old.items ++ table attribute_layout attributes.now) }
+    ensures { (consts : List Place) → OnOk result (out.new.items
+        ≡ out.old.items ++ spelled (table_parts (attribute_parts consts) attributes.now)) }
 {
     put_u16(out, attributes.len() as u16)?;
     for attribute in attributes {
@@ -54,7 +57,8 @@ fn put_attributes(out: &mut Vec<u8>, attributes: &[Attribute]) -> Result<(), Mem
 /// A field or a method.
 fn put_member(out: &mut Vec<u8>, member: &Member) -> Result<(), Memory>
     requires { FitsMember member.now }
-    ensures { OnOk result (out.new.items ≡ out.old.items ++ member_layout member.now) }
+    ensures { (consts : List Place) (tests : List Test) → OnOk result
+        (out.new.items ≡ out.old.items ++ spelled (member_parts consts tests member.now)) }
 {
     put_u16(out, member.access)?;
     put_u16(out, member.name)?;
@@ -64,7 +68,9 @@ fn put_member(out: &mut Vec<u8>, member: &Member) -> Result<(), Memory>
 
 fn put_members(out: &mut Vec<u8>, members: &[Member]) -> Result<(), Memory>
     requires { FitsTable FitsMember members.now }
-    ensures { OnOk result (out.new.items ≡ out.old.items ++ table member_layout members.now) }
+    ensures { (consts : List Place) (tests : Member → List Test) → OnOk result (out.new.items
+        ≡ out.old.items
+        ++ spelled (table_parts (λ m. member_parts consts (tests m) m) members.now)) }
 {
     put_u16(out, members.len() as u16)?;
     for member in members {
@@ -110,7 +116,8 @@ fn make_room(out: &mut Vec<u8>, parts: &Parts) -> Result<(), Memory>
 /// What stands before the access flags.
 fn put_head(out: &mut Vec<u8>, parts: &Parts) -> Result<(), Memory>
     ensures { OnOk result
-        (out.new.items ≡ out.old.items ++ head_layout (class_of_parts parts.now)) }
+        (out.new.items ≡ out.old.items ++ spelled (start_parts MAGIC parts.now.minor parts.now.major
+        ++ Nested parts.now.consts ∷ [])) }
 {
     put_u32(out, MAGIC)?;
     put_u16(out, parts.minor)?;
@@ -121,7 +128,8 @@ fn put_head(out: &mut Vec<u8>, parts: &Parts) -> Result<(), Memory>
 /// The access flags, and the indexes of the class and of the super class.
 fn put_numbers(out: &mut Vec<u8>, parts: &Parts) -> Result<(), Memory>
     ensures { OnOk result
-        (out.new.items ≡ out.old.items ++ numbers_layout (class_of_parts parts.now)) }
+        (out.new.items ≡ out.old.items ++ spelled (own_parts parts.now.consts parts.now.access
+        parts.now.this_class parts.now.super_class)) }
 {
     put_u16(out, parts.access)?;
     put_u16(out, parts.this_class)?;
@@ -131,7 +139,9 @@ fn put_numbers(out: &mut Vec<u8>, parts: &Parts) -> Result<(), Memory>
 fn put_tables(out: &mut Vec<u8>, parts: &Parts) -> Result<(), Memory>
     requires { FitsClass (class_of_parts parts.now) }
     ensures { OnOk result
-        (out.new.items ≡ out.old.items ++ tables_layout (class_of_parts parts.now)) }
+        (out.new.items ≡ out.old.items ++ spelled (lists_parts parts.now.consts
+        parts.now.interfaces.items parts.now.fields.items parts.now.methods.items
+        parts.now.attributes.items)) }
 {
     put_interfaces(out, &parts.interfaces)?;
     put_members(out, &parts.fields)?;
@@ -142,7 +152,7 @@ fn put_tables(out: &mut Vec<u8>, parts: &Parts) -> Result<(), Memory>
 fn put_parts(out: &mut Vec<u8>, parts: &Parts) -> Result<(), Memory>
     requires { FitsClass (class_of_parts parts.now) }
     ensures { OnOk result
-        (out.new.items ≡ out.old.items ++ class_layout (class_of_parts parts.now)) }
+        (out.new.items ≡ out.old.items ++ spelled (class_parts (class_of_parts parts.now))) }
 {
     put_head(out, parts)?;
     make_room(out, parts)?;

@@ -108,7 +108,7 @@ all_stay places more (Second ∷ some) h = (tt, all_stay places more some h.1)
 pub IsPool-added : (places : List Place) (c : Const) → IsPool places → Fits c → Names places c → length places + length (places_of c) + 1 < 2 ^ 16 → IsPool (places ++ places_of c)
 IsPool-added places c pool fits names room = record {
   fits = All-append (OfEntry Fits) places (places_of c) pool.fits (All-places_of Fits c fits);
-  spaced = IsSpaced-append _ places (places_of c) pool.spaced (IsSpaced-places_of c);
+  spaced = IsSpaced-append false places false (places_of c) false pool.spaced (IsSpaced-places_of c);
   names = All-append (OfEntry (Names (places ++ places_of c))) places (places_of c) (all_stay places (places_of c) places pool.names) (All-places_of (Names (places ++ places_of c)) c (Names_stay places (places_of c) c names));
   count = omega (arith, length-append places (places_of c));
 }
@@ -138,12 +138,6 @@ last_by places false c = const_last places [] c
 -- the new entry stands behind the old places
 pub const_added : (places : List Place) (c : Const) → const_at (places ++ places_of c) (length places + 1) ≡ Some c
 const_added places c = last_by places (is_wide c) c
-
-pub taken_wide : (c : Const) → is_wide c ≡ true → length (places_of c) ≡ 2
-taken_wide c e = ap (λ (b : Bool). length (taken_by b c)) e
-
-pub taken_narrow : (c : Const) → is_wide c ≡ false → length (places_of c) ≡ 1
-taken_narrow c e = ap (λ (b : Bool). length (taken_by b c)) e
 
 -- ---- what composed entries name
 

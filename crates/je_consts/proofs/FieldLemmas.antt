@@ -1,26 +1,18 @@
 -- A number that is read is the number that was written, and the other way round.
-use Rattle.std.proofs.Common.{◌≡◌, ℕ, ◌+◌, ◌^◌, ◌<◌, ◌≤◌, Bool, true, false, cond, ltb, List, [], ◌∷◌, ◌++◌, length, get_or, take, drop, Result, Ok, Err, refl, sym, ap, ◌∙◌, append_assoc, arith, inl, inr, ◌⊎◌}
+use Rattle.std.proofs.Common.{◌≡◌, ℕ, ◌+◌, ◌^◌, ◌<◌, ◌≤◌, Bool, true, false, cond, ltb, List, [], ◌∷◌, ◌++◌, length, get_or, take, drop, Result, Ok, Err, refl, sym, ap, ◌∙◌, arith, inl, inr, ◌⊎◌}
 use Rattle.std.specs.Int.{Width, w16, w32, w64, byte_len, from_be_bytes, to_be_bytes}
-use Rattle.std.proofs.lemmas.Bool.{cases_lt, ltb-true, ltb-false, le-ltb}
-use Rattle.std.proofs.lemmas.List.{take_at, drop_at, drop-drop, take-append-drop, length-append, length-take, get_or-drop, get_or-take, get_or_past}
-use Rattle.std.proofs.lemmas.Nat.{be_bytes_2, be_bytes_4, be_bytes_8, from_be_bytes-to_be_bytes_2, from_be_bytes-to_be_bytes_4, from_be_bytes-to_be_bytes_8}
+use Rattle.std.proofs.lemmas.Bool.{cases_lt, ltb-true, ltb-false}
+use Rattle.std.proofs.lemmas.List.{drop_at, drop-drop, take-append-drop, length-take, get_or-drop, get_or-take, get_or_past}
+use Rattle.std.proofs.lemmas.Nat.{be_bytes_2, be_bytes_4, be_bytes_8}
 use Rattle.je_consts.specs.declared.fault.ConstFault.{ConstFault}
 use Rattle.je_consts.specs.declared.fault.ConstFault.TheVariants.{Truncated}
 use Rattle.je_base.specs.Bytes.{u1}
-use Rattle.je_consts.specs.Reading.{◌>>=◌, byte_of, byte_at, number_at, run_at}
+use Rattle.je_consts.specs.Reading.{byte_of, byte_at, number_at, run_at}
 
 -- ---- what a step gave
 
 abbrev pub Read : Type 0 → Type 0
 Read A = Result A ConstFault
-
-pub bind_ok : {A B : Type 0} (r : Read A) (f : A → Read B) (y : B) → (r >>= f) ≡ Ok y → (x : A) × (r ≡ Ok x) × (f x ≡ Ok y)
-bind_ok (Ok x) f y e = (x, refl, e)
-bind_ok (Err d) f y e = absurd cc
-
-pub bind_err : {A B : Type 0} (r : Read A) (f : A → Read B) (d : ConstFault) → (r >>= f) ≡ Err d → (r ≡ Err d) ⊎ ((x : A) × (r ≡ Ok x) × (f x ≡ Err d))
-bind_err (Ok x) f d e = inr (x, refl, e)
-bind_err (Err c) f d e = inl cc
 
 -- which way a test went
 pub chosen : {A : Type 0} (b : Bool) (x y z : A) → cond b x y ≡ z → ((b ≡ true) × (x ≡ z)) ⊎ ((b ≡ false) × (y ≡ z))
@@ -44,7 +36,7 @@ err_is d e h = cc
 abbrev pub IsBytes : List ℕ → Type 0
 IsBytes bytes = (i : ℕ) → get_or bytes i 0 < 256
 
-IsBytes-drop : (n : ℕ) (bytes : List ℕ) → IsBytes bytes → IsBytes (drop n bytes)
+pub IsBytes-drop : (n : ℕ) (bytes : List ℕ) → IsBytes bytes → IsBytes (drop n bytes)
 IsBytes-drop n bytes h i = rw get_or-drop (h (n + i))
 
 IsBytes-take : (n : ℕ) (bytes : List ℕ) → IsBytes bytes → IsBytes (take n bytes)
@@ -57,12 +49,6 @@ IsBytes-take n bytes h i =
 pub record Spells (bytes : List ℕ) (at : ℕ) (text : List ℕ) (end : ℕ) : Type 0 where
   pub parts : drop at bytes ≡ text ++ drop end bytes
   pub len : end ≡ at + length text
-
-pub Spells-then : (bytes : List ℕ) (a : ℕ) (x : List ℕ) (b : ℕ) (y : List ℕ) (c : ℕ) → Spells bytes a x b → Spells bytes b y c → Spells bytes a (x ++ y) c
-Spells-then bytes a x b y c p q = record {
-  parts = p.parts ∙ ap (λ (t : List ℕ). x ++ t) q.parts ∙ sym (append_assoc x y (drop c bytes));
-  len = omega (arith, p.len, q.len, length-append x y);
-}
 
 -- what stands behind a front
 pub behind : (bytes : List ℕ) (at : ℕ) (front rest : List ℕ) (n : ℕ) → drop at bytes ≡ front ++ rest → length front ≡ n → drop (at + n) bytes ≡ rest
@@ -80,9 +66,6 @@ byte_takes bytes at x e =
     let rest : drop (at + 1) bytes ≡ f.0 = behind bytes at (u1 x.0) f.0 1 f.1 refl in
     record { parts = rw (f.2, rest) f.1; len = f.2 }
 
-pub byte_again : (bytes : List ℕ) (at b : ℕ) (rest : List ℕ) → drop at bytes ≡ b ∷ rest → byte_at bytes at ≡ Ok (b, at + 1)
-byte_again bytes at b rest e = rw e refl
-
 byte_none : (at : ℕ) (rest : List ℕ) (d : ConstFault) → byte_of at rest ≡ Err d → (d ≡ Truncated at) × (rest ≡ [])
 byte_none at [] d e = (sym (err_is {A = ℕ × ℕ} (Truncated at) d e), refl)
 byte_none at (b ∷ rest) d e = absurd cc
@@ -95,7 +78,6 @@ byte_cut bytes at d e = byte_none at (drop at bytes) d e
 pub record IsWide (w : Width) (limit : ℕ) : Type 0 where
   pub len : (n : ℕ) → length (to_be_bytes w n) ≡ byte_len w
   pub back : (bytes : List ℕ) → length bytes ≡ byte_len w → IsBytes bytes → to_be_bytes w (from_be_bytes w bytes) ≡ bytes
-  pub again : (n : ℕ) → n < limit → from_be_bytes w (to_be_bytes w n) ≡ n
   pub below : (bytes : List ℕ) → IsBytes bytes → from_be_bytes w bytes < limit
   pub some : 0 < limit
 
@@ -103,7 +85,6 @@ pub wide16 : IsWide w16 (2 ^ 16)
 wide16 = record {
   len = λ n. refl;
   back = λ bytes len fits. be_bytes_2 bytes _ len fits refl;
-  again = λ n lt. from_be_bytes-to_be_bytes_2 n lt;
   below = λ bytes fits. omega (arith, fits 0, fits 1);
   some = omega arith;
 }
@@ -112,7 +93,6 @@ pub wide32 : IsWide w32 (2 ^ 32)
 wide32 = record {
   len = λ n. refl;
   back = λ bytes len fits. be_bytes_4 bytes _ len fits refl;
-  again = λ n lt. from_be_bytes-to_be_bytes_4 n lt;
   below = λ bytes fits. omega (arith, fits 0, fits 1, fits 2, fits 3);
   some = omega arith;
 }
@@ -121,7 +101,6 @@ pub wide64 : IsWide w64 (2 ^ 64)
 wide64 = record {
   len = λ n. refl;
   back = λ bytes len fits. be_bytes_8 bytes _ len fits refl;
-  again = λ n lt. from_be_bytes-to_be_bytes_8 n lt;
   below = λ bytes fits. omega (arith, fits 0, fits 1, fits 2, fits 3, fits 4, fits 5, fits 6, fits 7);
   some = omega arith;
 }
@@ -143,12 +122,6 @@ module _ (w : Width) (limit : ℕ) (wide : IsWide w limit) (bytes : List ℕ) (a
             let spelled : Spells bytes at (to_be_bytes w read.0) read.1 = record { parts = rw front parts; len = ap (λ (n : ℕ). at + n) (sym (wide.len read.0)) } in
             rw (← is) (spelled, wide.below (take (byte_len w) rest) (IsBytes-take (byte_len w) rest (IsBytes-drop at bytes fits)))
       ]
-
-  pub number_again : (n : ℕ) (rest : List ℕ) → n < limit → drop at bytes ≡ to_be_bytes w n ++ rest → number_at w bytes at ≡ Ok (n, at + byte_len w)
-  number_again n rest lt e =
-      let len = wide.len n in
-      let long : ltb (length (to_be_bytes w n ++ rest)) (byte_len w) ≡ false = le-ltb _ _ (omega (arith, length-append (to_be_bytes w n) rest)) in
-      rw (e, long, take_at (to_be_bytes w n) rest (byte_len w) len, wide.again n lt) refl
 
   pub number_cut : (d : ConstFault) → number_at w bytes at ≡ Err d → (d ≡ Truncated at) × (length (drop at bytes) < byte_len w)
   number_cut d e =
@@ -183,8 +156,3 @@ module _ (n : ℕ) (bytes : List ℕ) (at : ℕ) where
         | inl p ↦ (sym (err_is {A = List ℕ × ℕ} (Truncated at) d p.1), ltb-true _ _ p.0)
         | inr g ↦ absurd cc
       ]
-
-pub run_again : (text : List ℕ) (bytes : List ℕ) (at : ℕ) (rest : List ℕ) → drop at bytes ≡ text ++ rest → run_at (length text) bytes at ≡ Ok (text, at + length text)
-run_again text bytes at rest e =
-    let long : ltb (length (text ++ rest)) (length text) ≡ false = le-ltb _ _ (omega (arith, length-append text rest)) in
-    rw (e, long, take_at text rest (length text) refl) refl

@@ -3,6 +3,7 @@ pub mod Loop
 pub mod Misfits
 pub mod FieldLemmas
 pub mod EntryLemmas
+pub mod OneEntry
 pub mod PlaceLemmas
 pub mod SpacedLemmas
 pub mod FaultLemmas

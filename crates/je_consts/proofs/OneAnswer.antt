@@ -1,5 +1,5 @@
 -- Bytes are one constant pool or have one first fault, and there is one of them.
-use Rattle.std.proofs.Common.{◌≡◌, ℕ, zero, suc, ◌+◌, ◌≤◌, ◌<◌, ◌⊎◌, Bool, true, false, eqb, List, length, Ok, Err, Option, Some, IsSomeAnd, IfSome, refl, sym, ap, ◌∙◌, arith, inl, inr}
+use Rattle.std.proofs.Common.{◌≡◌, ℕ, zero, suc, ◌+◌, ◌≤◌, ◌<◌, ◌⊎◌, Bool, true, false, eqb, List, length, Ok, Err, Option, Some, IsSomeAnd, IfSome, refl, ap, ◌∙◌, arith, inl, inr}
 use Rattle.std.specs.List.{AllByRecursion}
 use Rattle.std.proofs.lemmas.Bool.{cases_lt, eqb-true, eqb-false}
 use Rattle.je_consts.specs.declared.constant.Const.{Const}
@@ -11,29 +11,30 @@ use Rattle.je_consts.specs.Faults.{FirstFault}
 use Rattle.je_consts.specs.Layout.{IsPoolAt}
 use Rattle.je_consts.specs.Pool.{const_at, tag_at, IsMemberTag, Names, OfEntry, IsLeastMisfit}
 use Rattle.je_consts.specs.Reading.{spelled_at}
-use Rattle.je_consts.proofs.FieldLemmas.{Read, IsBytes, ok_is, err_is}
-use Rattle.je_consts.proofs.ExactLemmas.{read_as}
-use Rattle.je_consts.proofs.FaultLemmas.{spelled_fault}
+use Rattle.je_base.specs.Parts.{OneWay}
+use Rattle.je_consts.specs.EntryParts.{entry_format}
+use Rattle.je_consts.proofs.FieldLemmas.{IsBytes}
+use Rattle.je_consts.proofs.ExactLemmas.{comes_as}
+use Rattle.je_consts.proofs.FaultLemmas.{pool_fault}
 use Rattle.je_consts.proofs.Misfits.{below_next, all_by_indexes}
-use Rattle.je_consts.proofs.ReadLemmas.{is_read, no_fault, same_misfit, misfit_first, read_found}
+use Rattle.je_consts.proofs.PlaceLemmas.{Whole, PoolComes, spelled_comes}
+use Rattle.je_consts.proofs.ReadLemmas.{pool_comes, found, misfit_first, same_pool, same_fault, same_misfit, no_fault}
 
-pub same_pool : (bytes : List ℕ) (at end other : ℕ) (places others : List Place) → IsPoolAt bytes at end places → IsPoolAt bytes at other others → (places ≡ others) × (end ≡ other)
-same_pool bytes at end other places others h k =
-    let same = ok_is (places, end) (others, other) (sym (is_read bytes at end places h) ∙ is_read bytes at other others k) in
-    (ap (λ (r : List Place × ℕ). r.0) same, ap (λ (r : List Place × ℕ). r.1) same)
+module _ (way : OneWay entry_format) (bytes : List ℕ) (at : ℕ) where
+  pub one_pool : (end other : ℕ) (places others : List Place) → IsPoolAt bytes at end places → IsPoolAt bytes at other others → (places ≡ others) × (end ≡ other)
+  one_pool end other places others h k =
+      let same = same_pool bytes at way (places, end) (pool_comes bytes at end places h) others other k in
+      (ap (λ (r : List Place × ℕ). r.0) same, ap (λ (r : List Place × ℕ). r.1) same)
 
-pub pool_no_fault : (bytes : List ℕ) (at end : ℕ) (places : List Place) (d : ConstFault) → IsPoolAt bytes at end places → FirstFault bytes at d → ⊥
-pool_no_fault bytes at end places d h first = no_fault bytes at d first (places, end) (is_read bytes at end places h) h.spelled.pool.names
+  pub pool_no_fault : (end : ℕ) (places : List Place) (d : ConstFault) → IsPoolAt bytes at end places → FirstFault bytes at d → ⊥
+  pool_no_fault end places d h first = no_fault bytes at way d first (places, end) (pool_comes bytes at end places h) h.spelled.pool.names
 
-pub one_fault : (bytes : List ℕ) (at : ℕ) (d e : ConstFault) → FirstFault bytes at d → FirstFault bytes at e → d ≡ e
-one_fault bytes at d e f g =
-    elim (read_as bytes at d f) [
-      | inl p ↦ elim (read_as bytes at e g) [
-        | inl q ↦ err_is {A = List Place × ℕ} d e (sym p ∙ q)
-        | inr q ↦ let read = q.2 in absurd cc
+  pub one_fault : (d e : ConstFault) → FirstFault bytes at d → FirstFault bytes at e → d ≡ e
+  one_fault d e f g =
+      elim (comes_as bytes at d f) [
+        | inl p ↦ same_fault bytes at way e g d p
+        | inr q ↦ q.4 ∙ same_misfit bytes at way e g q.0 q.1 q.2 q.3
       ]
-      | inr p ↦ p.4 ∙ same_misfit bytes at e g p.0 p.1 p.2 p.3
-    ]
 
 -- ---- one of them there is
 
@@ -100,13 +101,13 @@ module _ (places : List Place) where
 abbrev Answer : List ℕ → ℕ → Type 0
 Answer bytes at = ((places : List Place) × (end : ℕ) × IsPoolAt bytes at end places) ⊎ ((d : ConstFault) × FirstFault bytes at d)
 
-answer_by : (bytes : List ℕ) (at : ℕ) → IsBytes bytes → at ≤ length bytes → (r : Read (List Place × ℕ)) → spelled_at bytes at ≡ r → Answer bytes at
-answer_by bytes at fits within (Err d) e = inr (d, spelled_fault bytes at d fits e)
-answer_by bytes at fits within (Ok x) e =
+answer_by : (bytes : List ℕ) (at : ℕ) → at ≤ length bytes → (r : Whole) → PoolComes bytes at r → Answer bytes at
+answer_by bytes at within (Err d) h = inr (d, pool_fault bytes at d h)
+answer_by bytes at within (Ok x) h =
     elim (all_or_least x.0) [
-      | inl all ↦ inl (x.0, x.1, read_found bytes at x within fits e all)
-      | inr least ↦ inr (BadConst least.0, misfit_first bytes at x least.0 fits e least.1)
+      | inl all ↦ inl (x.0, x.1, found bytes at x within h all)
+      | inr least ↦ inr (BadConst least.0, misfit_first bytes at x least.0 h least.1)
     ]
 
 pub some_answer : (bytes : List ℕ) (at : ℕ) → IsBytes bytes → at ≤ length bytes → Answer bytes at
-some_answer bytes at fits within = answer_by bytes at fits within (spelled_at bytes at) refl
+some_answer bytes at fits within = answer_by bytes at within (spelled_at bytes at) (spelled_comes bytes fits at (spelled_at bytes at) refl)

@@ -1,126 +1,120 @@
--- Places that are read are those that were written, and the other way round.
-use Rattle.std.proofs.Common.{◌≡◌, ℕ, zero, suc, ◌+◌, ◌-◌, ◌^◌, ◌<◌, Bool, true, false, cond, eqb, List, [], ◌∷◌, ◌++◌, length, drop, Ok, Err, refl, sym, ap, subst, ◌∙◌, append_assoc, length-append, arith, inl, inr}
-use Rattle.std.specs.List.{AllByRecursion}
+-- What comes of reading places: the places and the offset after them, or the first fault.
+use Rattle.std.proofs.Common.{◌≡◌, ℕ, zero, suc, ◌+◌, ◌-◌, ◌^◌, ◌<◌, Bool, true, false, cond, eqb, List, [], ◌∷◌, length, drop, Ok, Err, refl, sym, ap, subst, ◌∙◌, arith, inl, inr, ◌⊎◌}
 use Rattle.std.specs.Int.{w16}
-use Rattle.std.proofs.lemmas.Bool.{eqb-false, ne_eqb}
-use Rattle.std.proofs.lemmas.List.Concat.{flat_map-cons}
-use Rattle.je_consts.specs.declared.fault.ConstFault.TheVariants.{BadConst}
+use Rattle.std.proofs.lemmas.Bool.{ne_eqb}
+use Rattle.je_base.specs.Bytes.{u2}
+use Rattle.je_base.specs.Parts.{U2, Follows, OneWay}
+use Rattle.je_consts.specs.declared.fault.ConstFault.{ConstFault}
+use Rattle.je_consts.specs.declared.fault.ConstFault.TheVariants.{Truncated, BadConst}
 use Rattle.je_consts.specs.declared.constant.Const.{Const}
 use Rattle.je_consts.specs.declared.place.Place.{Place}
 use Rattle.je_consts.specs.declared.place.Place.TheVariants.{Entry, Second}
-use Rattle.je_consts.specs.Pool.{is_wide, leads_second, Fits, OfEntry, IsSpaced}
-use Rattle.je_base.specs.Bytes.{u2}
-use Rattle.je_consts.specs.Layout.{const_layout, place_layout, entries_layout, pool_layout}
+use Rattle.je_consts.specs.EntryParts.{EntryFault, entry_format, Part}
+use Rattle.je_consts.specs.Pool.{is_wide, leads_second}
 use Rattle.je_consts.specs.Reading.{◌>>=◌, number_at, entry_at, place_at, places_at, spelled_at}
-use Rattle.je_consts.proofs.FieldLemmas.{Read, IsBytes, bind_ok, chosen, ok_is, Spells, Spells-then, behind, wide16, number_takes, number_again}
-use Rattle.je_consts.proofs.EntryLemmas.{entry_takes, entry_again}
+use Rattle.je_consts.proofs.FieldLemmas.{Read, IsBytes, ok_is, err_is, wide16, number_takes, number_cut}
+use Rattle.je_consts.proofs.EntryLemmas.{Comes, there_of, entry_comes}
+use Rattle.je_consts.proofs.OneEntry.{one_answer}
 
--- what was taken from there is the places' bytes
-pub record TakesPlaces (bytes : List ℕ) (at : ℕ) (wide : Bool) (n : ℕ) (x : List Place × ℕ) : Type 0 where
-  pub spelled : Spells bytes at (entries_layout x.0) x.1
-  pub count : length x.0 ≡ n
-  pub fits : AllByRecursion (OfEntry Fits) x.0
-  pub spaced : IsSpaced wide x.0
+abbrev pub Whole : Type 0
+Whole = Read (List Place × ℕ)
 
-takes_none : (bytes : List ℕ) (at : ℕ) → TakesPlaces bytes at false 0 ([], at)
-takes_none bytes at = record { spelled = record { parts = refl; len = omega arith }; count = refl; fits = tt; spaced = refl }
-
-takes_second : (bytes : List ℕ) (at n : ℕ) (x : List Place × ℕ) → TakesPlaces bytes at false n x → TakesPlaces bytes at true (suc n) (Second ∷ x.0, x.1)
-takes_second bytes at n x t = record { spelled = rw flat_map-cons t.spelled; count = ap suc t.count; fits = (tt, t.fits); spaced = (refl, t.spaced) }
-
-takes_entry : (bytes : List ℕ) (at n : ℕ) (c : Const) (mid : ℕ) (x : List Place × ℕ) → Spells bytes at (const_layout c) mid → Fits c → TakesPlaces bytes mid (is_wide c) n x → TakesPlaces bytes at false (suc n) (Entry c ∷ x.0, x.1)
-takes_entry bytes at n c mid x spelled fits t = record {
-  spelled = rw flat_map-cons (Spells-then bytes at (const_layout c) mid (entries_layout x.0) x.1 spelled t.spelled);
-  count = ap suc t.count;
-  fits = (fits, t.fits);
-  spaced = (refl, t.spaced);
-}
-
-abbrev pub behind_place : Place → List Place × ℕ → Read (List Place × ℕ)
+abbrev pub behind_place : Place → List Place × ℕ → Whole
 behind_place p x = Ok (p ∷ x.0, x.1)
 
-abbrev pub entry_step : Const × ℕ → Read (Place × ℕ)
+abbrev entry_step : Const × ℕ → Read (Place × ℕ)
 entry_step x = Ok (Entry x.0, x.1)
 
-pub places_take : (wide : Bool) (n index : ℕ) (bytes : List ℕ) (at : ℕ) (x : List Place × ℕ) → IsBytes bytes → places_at wide n index bytes at ≡ Ok x → TakesPlaces bytes at wide n x
-unfolding places_at place_at
-places_take true zero index bytes at x fits e = absurd cc
-places_take false zero index bytes at x fits e = subst (TakesPlaces bytes at false 0) (ok_is ([], at) x e) (takes_none bytes at)
-places_take true (suc n) index bytes at x fits e =
-    let b = bind_ok (places_at false n (index + 1) bytes at) (behind_place Second) x e in
-    let t = places_take false n (index + 1) bytes at b.0 fits b.1 in
-    subst (TakesPlaces bytes at true (suc n)) (ok_is (Second ∷ b.0.0, b.0.1) x b.2) (takes_second bytes at n b.0 t)
-places_take false (suc n) index bytes at x fits e =
-    let a = bind_ok (entry_at index bytes at >>= entry_step) (λ first. places_at (leads_second first.0) n (index + 1) bytes first.1 >>= behind_place first.0) x e in
-    let c = bind_ok (entry_at index bytes at) entry_step a.0 a.1 in
-    let is = ok_is (Entry c.0.0, c.0.1) a.0 c.2 in
-    let rest = subst (λ (p : Place × ℕ). (places_at (leads_second p.0) n (index + 1) bytes p.1 >>= behind_place p.0) ≡ Ok x) (sym is) a.2 in
-    let b = bind_ok (places_at (is_wide c.0.0) n (index + 1) bytes c.0.1) (behind_place (Entry c.0.0)) x rest in
-    let taken = entry_takes index bytes at c.0 fits c.1 in
-    let t = places_take (is_wide c.0.0) n (index + 1) bytes c.0.1 b.0 fits b.1 in
-    let made : List Place × ℕ = (Entry c.0.0 ∷ b.0.0, b.0.1) in
-    subst (TakesPlaces bytes at false (suc n)) {x = made} (ok_is made x b.2) (takes_entry bytes at n c.0.0 c.0.1 b.0 taken.0 taken.1 t)
+module _ (bytes : List ℕ) where
+  -- so many places from an index on; `wide` says that a Long or Double stands at the index before
+  abbrev pub Come : Bool → ℕ → ℕ → ℕ → Whole → Type 0
+  Come true zero index at r = r ≡ Err (BadConst (index - 1))
+  Come false zero index at r = r ≡ Ok ([], at)
+  Come true (suc n) index at r = (s : Whole) × Come false n (index + 1) at s × ((s >>= behind_place Second) ≡ r)
+  Come false (suc n) index at r =
+      ((d : ConstFault) × Comes index bytes at (Err d) × (r ≡ Err d))
+      ⊎ ((x : Const × ℕ) × (s : Whole) × Comes index bytes at (Ok x) × Come (is_wide x.0) n (index + 1) x.1 s × ((s >>= behind_place (Entry x.0)) ≡ r))
 
-pub places_again : (wide : Bool) (places : List Place) (index : ℕ) (bytes : List ℕ) (at : ℕ) (rest : List ℕ) → AllByRecursion (OfEntry Fits) places → IsSpaced wide places → drop at bytes ≡ entries_layout places ++ rest
-    → places_at wide (length places) index bytes at ≡ Ok (places, at + length (entries_layout places))
-unfolding places_at place_at
-places_again true [] index bytes at rest fits spaced e = absurd cc
-places_again false [] index bytes at rest fits spaced e = ap (λ (k : ℕ). Ok ([], k)) (omega arith)
-places_again true (Entry c ∷ places) index bytes at rest fits spaced e = let no_entry = spaced.0 in absurd cc
-places_again false (Second ∷ places) index bytes at rest fits spaced e = let no_second = spaced.0 in absurd cc
-places_again true (Second ∷ places) index bytes at rest fits spaced e =
-    let same : entries_layout (Second ∷ places) ≡ entries_layout places = flat_map-cons place_layout Second places in
-    let e' : drop at bytes ≡ entries_layout places ++ rest = e ∙ ap (λ (t : List ℕ). t ++ rest) same in
-    let read = places_again false places (index + 1) bytes at rest fits.1 spaced.1 e' in
-    ap (λ r. r >>= behind_place Second) read ∙ ap (λ (t : List ℕ). Ok (Second ∷ places, at + length t)) (sym same)
-places_again false (Entry c ∷ places) index bytes at rest fits spaced e =
-    let whole : entries_layout (Entry c ∷ places) ≡ const_layout c ++ entries_layout places = flat_map-cons place_layout (Entry c) places in
-    let e' : drop at bytes ≡ const_layout c ++ (entries_layout places ++ rest) = e ∙ ap (λ (t : List ℕ). t ++ rest) whole ∙ append_assoc (const_layout c) (entries_layout places) rest in
-    let mid = at + length (const_layout c) in
-    let first = entry_again index bytes at c (entries_layout places ++ rest) fits.0 e' in
-    let next = behind bytes at (const_layout c) (entries_layout places ++ rest) (length (const_layout c)) e' refl in
-    let read = places_again (is_wide c) places (index + 1) bytes mid rest fits.1 spaced.1 next in
-    let end : mid + length (entries_layout places) ≡ at + length (entries_layout (Entry c ∷ places)) = omega (arith, ap length whole, length-append (const_layout c) (entries_layout places)) in
-    ap (λ r. (r >>= entry_step) >>= λ first. places_at (leads_second first.0) (length places) (index + 1) bytes first.1 >>= behind_place first.0) first
-    ∙ ap (λ r. r >>= behind_place (Entry c)) read
-    ∙ ap (λ (k : ℕ). Ok (Entry c ∷ places, k)) end
+  -- the places behind this count
+  abbrev pub Behind : ℕ → ℕ → Whole → Type 0
+  Behind zero mid r = r ≡ Err (BadConst 0)
+  Behind (suc n) mid r = Come false n 1 mid r
 
--- ---- the count and the places
+  abbrev pub count_parts : ℕ → List Part
+  count_parts count = U2 count [] ∷ []
 
-pub record TakesPool (bytes : List ℕ) (at : ℕ) (x : List Place × ℕ) : Type 0 where
-  pub spelled : Spells bytes at (pool_layout x.0) x.1
-  pub count : length x.0 + 1 < 2 ^ 16
-  pub fits : AllByRecursion (OfEntry Fits) x.0
-  pub spaced : IsSpaced false x.0
+  -- the count and the places
+  abbrev pub PoolComes : ℕ → Whole → Type 0
+  PoolComes at r =
+      ((length (drop at bytes) < 2) × (r ≡ Err (Truncated at)))
+      ⊎ ((count : ℕ) × (mid : ℕ) × Follows entry_format bytes at (count_parts count) mid × Behind count mid r)
 
-pub spelled_takes : (bytes : List ℕ) (at : ℕ) (x : List Place × ℕ) → IsBytes bytes → spelled_at bytes at ≡ Ok x → TakesPool bytes at x
-unfolding spelled_at
-spelled_takes bytes at x fits e =
-    let a = bind_ok (number_at w16 bytes at) (λ count. cond (eqb count.0 0) (Err (BadConst 0)) (places_at false (count.0 - 1) 1 bytes count.1)) x e in
-    elim (chosen (eqb a.0.0 0) (Err (BadConst 0)) (places_at false (a.0.0 - 1) 1 bytes a.0.1) (Ok x) a.2) [
-      | inl p ↦ absurd cc
-      | inr g ↦
-          let k = number_takes w16 (2 ^ 16) wide16 bytes at a.0 fits a.1 in
-          let t = places_take false (a.0.0 - 1) 1 bytes a.0.1 x fits g.1 in
-          let count : a.0.0 ≡ length x.0 + 1 = omega (arith, eqb-false a.0.0 0 g.0, t.count) in
-          let both = Spells-then bytes at (u2 a.0.0) a.0.1 (entries_layout x.0) x.1 k.0 t.spelled in
-          record {
-            spelled = subst (λ (n : ℕ). Spells bytes at (u2 n ++ entries_layout x.0) x.1) count both;
-            count = omega (arith, count, k.1);
-            fits = t.fits;
-            spaced = t.spaced;
-          }
-    ]
+  -- ---- there is one answer
 
-pub spelled_again : (places : List Place) (bytes : List ℕ) (at : ℕ) (rest : List ℕ) → length places + 1 < 2 ^ 16 → AllByRecursion (OfEntry Fits) places → IsSpaced false places → drop at bytes ≡ pool_layout places ++ rest
-    → spelled_at bytes at ≡ Ok (places, at + length (pool_layout places))
-unfolding spelled_at
-spelled_again places bytes at rest lt fits spaced e =
-    let n = length places + 1 in
-    let first = number_again w16 (2 ^ 16) wide16 bytes at n (entries_layout places ++ rest) lt e in
-    let next = behind bytes at (u2 n) (entries_layout places ++ rest) 2 e refl in
-    let some : eqb n 0 ≡ false = ne_eqb _ _ (λ h. omega (arith, h)) in
-    let less : n - 1 ≡ length places = omega arith in
-    let read = places_again false places 1 bytes (at + 2) rest fits spaced next in
-    let end : at + 2 + length (entries_layout places) ≡ at + length (pool_layout places) = omega (arith, length-append (u2 n) (entries_layout places)) in
-    rw (first, some, less) (read ∙ ap (λ (k : ℕ). Ok (places, k)) end)
+  module _ (way : OneWay entry_format) where
+    come_one : (wide : Bool) (n index at : ℕ) (r s : Whole) → Come wide n index at r → Come wide n index at s → r ≡ s
+    come_one true zero index at r s h k = h ∙ sym k
+    come_one false zero index at r s h k = h ∙ sym k
+    come_one true (suc n) index at r s h k = sym h.2 ∙ ap (λ (t : Whole). t >>= behind_place Second) (come_one false n (index + 1) at h.0 k.0 h.1 k.1) ∙ k.2
+    come_one false (suc n) index at r s (inl h) (inl k) =
+        let same = err_is h.0 k.0 (one_answer way index bytes at (Err h.0) (Err k.0) h.1 k.1) in
+        h.2 ∙ ap (λ (d : ConstFault). Err d) same ∙ sym k.2
+    come_one false (suc n) index at r s (inl h) (inr k) = let differ = one_answer way index bytes at (Err h.0) (Ok k.0) h.1 k.2 in absurd cc
+    come_one false (suc n) index at r s (inr h) (inl k) = let differ = one_answer way index bytes at (Ok h.0) (Err k.0) h.2 k.1 in absurd cc
+    come_one false (suc n) index at r s (inr h) (inr k) =
+        let same = ok_is h.0 k.0 (one_answer way index bytes at (Ok h.0) (Ok k.0) h.2 k.2) in
+        let more = subst (λ (x : Const × ℕ). Come (is_wide x.0) n (index + 1) x.1 h.1) same h.3 in
+        let rest = come_one (is_wide k.0.0) n (index + 1) k.0.1 h.1 k.1 more k.3 in
+        sym h.4 ∙ ap (λ (x : Const × ℕ). h.1 >>= behind_place (Entry x.0)) same ∙ ap (λ (t : Whole). t >>= behind_place (Entry k.0.0)) rest ∙ k.4
+
+    behind_one : (count mid : ℕ) (r s : Whole) → Behind count mid r → Behind count mid s → r ≡ s
+    behind_one zero mid r s h k = h ∙ sym k
+    behind_one (suc n) mid r s h k = come_one false n 1 mid r s h k
+
+    cut_not_there : (at count mid : ℕ) → length (drop at bytes) < 2 → Follows entry_format bytes at (count_parts count) mid → ⊥
+    cut_not_there at count mid short there =
+        let fault : EntryFault = λ index. Truncated at in
+        way.agree bytes at (count_parts count) (count_parts count) (Ok mid) (Err fault) (λ e. refl, λ e. tt) (record { goes = there }) (record { goes = inl (inl (short, refl)) })
+
+    counts_same : (m n : ℕ) → count_parts m ≡ count_parts n → m ≡ n
+    counts_same m n e = cc
+
+    pub pool_one : (at : ℕ) (r s : Whole) → PoolComes at r → PoolComes at s → r ≡ s
+    pool_one at r s (inl h) (inl k) = h.1 ∙ sym k.1
+    pool_one at r s (inl h) (inr k) = absurd (cut_not_there at k.0 k.1 h.0 k.2)
+    pool_one at r s (inr h) (inl k) = absurd (cut_not_there at h.0 h.1 k.0 h.2)
+    pool_one at r s (inr h) (inr k) =
+        let both = way.agree bytes at (count_parts h.0) (count_parts k.0) (Ok h.1) (Ok k.1) (λ e. refl, λ e. tt) (record { goes = h.2 }) (record { goes = k.2 }) in
+        let behind = subst (λ (m : ℕ). Behind h.0 m r) both.1 h.3 in
+        behind_one k.0 k.1 r s (subst (λ (n : ℕ). Behind n k.1 r) (counts_same h.0 k.0 both.0) behind) k.3
+
+  -- ---- reading gives one
+
+  module _ (fits : IsBytes bytes) where
+    by_entry : (n index at : ℕ) (r : Whole) → ((wide : Bool) (mid : ℕ) → Come wide n (index + 1) mid (places_at wide n (index + 1) bytes mid)) → (m : Read (Const × ℕ)) → entry_at index bytes at ≡ m
+        → ((m >>= entry_step) >>= λ first. places_at (leads_second first.0) n (index + 1) bytes first.1 >>= behind_place first.0) ≡ r → Come false (suc n) index at r
+    by_entry n index at r rest (Err d) read e = inl (d, entry_comes index bytes fits at (Err d) read, sym e)
+    by_entry n index at r rest (Ok x) read e = inr (x, places_at (is_wide x.0) n (index + 1) bytes x.1, entry_comes index bytes fits at (Ok x) read, rest (is_wide x.0) x.1, e)
+
+    places_come : (wide : Bool) (n index at : ℕ) → Come wide n index at (places_at wide n index bytes at)
+    unfolding places_at place_at
+    places_come true zero index at = refl
+    places_come false zero index at = refl
+    places_come true (suc n) index at = (places_at false n (index + 1) bytes at, places_come false n (index + 1) at, refl)
+    places_come false (suc n) index at = by_entry n index at (places_at false (suc n) index bytes at) (λ wide mid. places_come wide n (index + 1) mid) (entry_at index bytes at) refl refl
+
+    pub spelled_comes : (at : ℕ) (r : Whole) → spelled_at bytes at ≡ r → PoolComes at r
+    unfolding spelled_at
+    spelled_comes at r e = by_count (number_at w16 bytes at) refl e
+      where
+        behind_count : (count mid : ℕ) → cond (eqb count 0) (Err (BadConst 0)) (places_at false (count - 1) 1 bytes mid) ≡ r → Behind count mid r
+        behind_count zero mid e = sym e
+        behind_count (suc n) mid e =
+            let some : eqb (suc n) 0 ≡ false = ne_eqb (suc n) 0 (λ h. omega (arith, h)) in
+            let less : suc n - 1 ≡ n = omega arith in
+            let read : places_at false n 1 bytes mid ≡ r = rw (some, less) at e in
+            subst (Come false n 1 mid) read (places_come false n 1 mid)
+
+        by_count : (m : Read (ℕ × ℕ)) → number_at w16 bytes at ≡ m → (m >>= λ count. cond (eqb count.0 0) (Err (BadConst 0)) (places_at false (count.0 - 1) 1 bytes count.1)) ≡ r → PoolComes at r
+        by_count (Err d) read e = let k = number_cut w16 (2 ^ 16) wide16 bytes at d read in inl (k.1, sym e ∙ ap (λ (f : ConstFault). Err f) k.0)
+        by_count (Ok x) read e = let k = number_takes w16 (2 ^ 16) wide16 bytes at x fits read in inr (x.0, x.1, (there_of bytes at (u2 x.0) x.1 k.0, (k.1, tt), k.0.len), behind_count x.0 x.1 e)

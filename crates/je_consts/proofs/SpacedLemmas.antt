@@ -10,17 +10,17 @@ pub All-append : {A : Type 0} (P : A → Type 0) (xs ys : List A) → AllByRecur
 All-append P [] ys h k = k
 All-append P (x ∷ xs) ys h k = (h.0, All-append P xs ys h.1 k)
 
-pub IsSpaced-append : (wide : Bool) (xs ys : List Place) → IsSpaced wide xs → IsSpaced false ys → IsSpaced wide (xs ++ ys)
-IsSpaced-append wide [] ys h k = subst (λ (b : Bool). IsSpaced b ys) (sym h) k
-IsSpaced-append wide (Entry c ∷ xs) ys h k = (h.0, IsSpaced-append (is_wide c) xs ys h.1 k)
-IsSpaced-append wide (Second ∷ xs) ys h k = (h.0, IsSpaced-append false xs ys h.1 k)
+pub IsSpaced-append : (wide : Bool) (xs : List Place) (mid : Bool) (ys : List Place) (last : Bool) → IsSpaced wide xs mid → IsSpaced mid ys last → IsSpaced wide (xs ++ ys) last
+IsSpaced-append wide [] mid ys last h k = subst (λ (b : Bool). IsSpaced b ys last) (sym h) k
+IsSpaced-append wide (Entry c ∷ xs) mid ys last h k = (h.0, IsSpaced-append (is_wide c) xs mid ys last h.1 k)
+IsSpaced-append wide (Second ∷ xs) mid ys last h k = (h.0, IsSpaced-append false xs mid ys last h.1 k)
 
-spaced_by : (b : Bool) (c : Const) → is_wide c ≡ b → IsSpaced false (taken_by b c)
-spaced_by true c e = (refl, subst (λ (w : Bool). IsSpaced w (Second ∷ [])) (sym e) (refl, refl))
-spaced_by false c e = (refl, subst (λ (w : Bool). IsSpaced w []) (sym e) refl)
+spaced_by : (b : Bool) (c : Const) → is_wide c ≡ b → IsSpaced false (taken_by b c) false
+spaced_by true c e = (refl, (e, refl))
+spaced_by false c e = (refl, e)
 
 -- the places of one entry
-pub IsSpaced-places_of : (c : Const) → IsSpaced false (places_of c)
+pub IsSpaced-places_of : (c : Const) → IsSpaced false (places_of c) false
 IsSpaced-places_of c = spaced_by (is_wide c) c refl
 
 all_by : (P : Const → Type 0) (b : Bool) (c : Const) → P c → AllByRecursion (OfEntry P) (taken_by b c)

@@ -35,13 +35,13 @@ leads_none b within (x ∷ front) len each = absurd (omega arith)
 
 leads_one : (b : ℕ) → (192 ≤ b) × (b ≤ 223) → Leads b 1
 leads_one b within [] len each = absurd (omega arith)
-leads_one b within (x ∷ []) len each = (within.0, within.1, each.0)
+leads_one b within (x ∷ []) len each = (within, each.0)
 leads_one b within (x ∷ y ∷ front) len each = absurd (omega arith)
 
 leads_two : (b : ℕ) → (224 ≤ b) × (b ≤ 239) → Leads b 2
 leads_two b within [] len each = absurd (omega arith)
 leads_two b within (x ∷ []) len each = absurd (omega arith)
-leads_two b within (x ∷ y ∷ []) len each = (within.0, within.1, each.0, each.1.0)
+leads_two b within (x ∷ y ∷ []) len each = (within, each.0, each.1.0)
 leads_two b within (x ∷ y ∷ z ∷ front) len each = absurd (omega arith)
 
 Splits-cons : (b after : ℕ) (rest : List ℕ) → Leads b after → Splits after rest → Splits 0 (b ∷ rest)
@@ -80,9 +80,9 @@ units-pass [] each = refl
 units-pass ([] ∷ units) each = absurd each.0
 units-pass ((a ∷ []) ∷ units) each = rw (true-between 1 127 a each.0.0 each.0.1) (units-pass units each.1)
 units-pass ((a ∷ b ∷ []) ∷ units) each =
-    rw (past-between 1 127 a (omega (arith, each.0.0)), true-between 192 223 a each.0.0 each.0.1, true-between 128 191 b each.0.2.0 each.0.2.1) (units-pass units each.1)
+    rw (past-between 1 127 a (omega (arith, each.0.0.0)), true-between 192 223 a each.0.0.0 each.0.0.1, true-between 128 191 b each.0.1.0 each.0.1.1) (units-pass units each.1)
 units-pass ((a ∷ b ∷ c ∷ []) ∷ units) each =
-    rw (past-between 1 127 a (omega (arith, each.0.0)), past-between 192 223 a (omega (arith, each.0.0)), true-between 224 239 a each.0.0 each.0.1, true-between 128 191 b each.0.2.0 each.0.2.1, true-between 128 191 c each.0.3.0 each.0.3.1) (units-pass units each.1)
+    rw (past-between 1 127 a (omega (arith, each.0.0.0)), past-between 192 223 a (omega (arith, each.0.0.0)), true-between 224 239 a each.0.0.0 each.0.0.1, true-between 128 191 b each.0.1.0 each.0.1.1, true-between 128 191 c each.0.2.0 each.0.2.1) (units-pass units each.1)
 units-pass ((a ∷ b ∷ c ∷ d ∷ r) ∷ units) each = absurd each.0
 
 pub IsModifiedUtf8-from_test : (bytes : List ℕ) → is_text bytes ≡ true → IsModifiedUtf8 bytes

@@ -1,5 +1,6 @@
 pub mod Tags
 pub mod Pool
+pub mod EntryParts
 pub mod Layout
 pub mod Reading
 pub mod Faults

@@ -182,17 +182,17 @@ leads_second (Entry c) = is_wide c
 leads_second Second = false
 
 -- A Second stands exactly after each Long and Double. `wide` says that one stands before these
--- places.
-abbrev pub IsSpaced : Bool → List Place → Type 0
-IsSpaced wide [] = wide ≡ false
-IsSpaced wide (Entry c ∷ places) = (wide ≡ false) × IsSpaced (is_wide c) places
-IsSpaced wide (Second ∷ places) = (wide ≡ true) × IsSpaced false places
+-- places, and `last` that one is the last of them.
+abbrev pub IsSpaced : Bool → List Place → Bool → Type 0
+IsSpaced wide [] last = wide ≡ last
+IsSpaced wide (Entry c ∷ places) last = (wide ≡ false) × IsSpaced (is_wide c) places last
+IsSpaced wide (Second ∷ places) last = (wide ≡ true) × IsSpaced false places last
 
 -- The places of a constant pool (JVMS 4.4). The count in the file is one more than their number
 -- (JVMS 4.1).
 pub record IsPool (places : List Place) : Type 0 where
   pub fits : AllByRecursion (OfEntry Fits) places
-  pub spaced : IsSpaced false places
+  pub spaced : IsSpaced false places false
   pub names : AllByRecursion (OfEntry (Names places)) places
   pub count : length places + 1 < 2 ^ 16
 

@@ -12,6 +12,7 @@ use crate::check::misfit;
 use crate::constant::Const;
 use crate::entries::entry_of;
 use crate::fault::ConstFault;
+use crate::laws::one_entry_way;
 use crate::place::Place;
 use je_base::{Run, u16_at};
 use std::alloc::Global;
@@ -96,7 +97,10 @@ pub(crate) fn pool_of(
     ensures exact { (d : ConstFault) → FirstFault bytes.now at d →
         MatchResult result (λ _. ⊥) (λ e. (e ≡ ConstFault.Memory) ⊎ (e ≡ d)) }
 {
+    // The laws that the proof stands on.
     bytes.sound();
+    one_entry_way();
+
     let (places, end) = match spelled_of(alloc, bytes, at) {
         Ok(spelled) => spelled,
         Err(fault) => return Err(fault),

@@ -93,7 +93,7 @@ from_least at [] (suc j) le = absurd (omega (arith, le))
 from_least at (i ∷ is) zero le = omega arith
 from_least at (i ∷ is) (suc j) le = let on = from_least (at + short_size at i) is j (omega (arith, le)) in omega (arith, on)
 
-rising : (at : ℕ) (is : List Instr) (i j : ℕ) → i < j → j ≤ length is → get_or (short_offsets at is) i 0 < get_or (short_offsets at is) j 0
+pub rising : (at : ℕ) (is : List Instr) (i j : ℕ) → i < j → j ≤ length is → get_or (short_offsets at is) i 0 < get_or (short_offsets at is) j 0
 rising at is i zero lt le = absurd (omega (arith, lt))
 rising at [] i (suc j) lt le = absurd (omega (arith, le))
 rising at (x ∷ is) zero (suc j) lt le =

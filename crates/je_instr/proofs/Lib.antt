@@ -29,3 +29,4 @@ pub mod AssembleLemmas
 pub mod TotalLemmas
 pub mod NumberLemmas
 pub mod AgainLemmas
+pub mod RiseLemmas

@@ -8,9 +8,14 @@ use std::alloc::{AllocError, AllocFailed};
 use thiserror::Error;
 
 /// Why bytes were not decoded as code: the first test that fails. The offsets are those of
-/// instructions, in bytes from the start of the code.
+/// instructions, in bytes from the start of the code, but for that of a layout.
 #[derive(Clone, Copy, Debug, PartialEq, Eq, Error)]
 pub enum CodeFault {
+    /// The bytes are no Code attribute. At this offset of them a number or a run of bytes begins
+    /// that is cut off, or a length of the code that is 0 or above 65,535, or the first byte too
+    /// many. Code alone has no such fault.
+    #[error("a Code attribute is malformed")]
+    BadLayout(usize),
     /// The byte at this offset is no opcode.
     #[error("an opcode is unknown")]
     BadOpcode(usize),

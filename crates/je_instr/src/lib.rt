@@ -27,6 +27,7 @@ mod operands;
 mod program;
 mod programs;
 mod ranges;
+mod rising;
 mod shortest;
 mod stop;
 mod table;
@@ -48,5 +49,6 @@ pub use laws::{constants_mean, contents_stay, one_program, opcodes_mean, operati
 pub use operands::{loads_mean, members_mean};
 pub use program::{Decoded, Handler, Program, RawHandler};
 pub use programs::{programs_mean, two_calls_are_shown};
+pub use rising::{assembled_offsets, offsets_rise};
 pub use stop::CodeStop;
 pub use table::{operand_opcodes, simple_opcodes};

@@ -69,6 +69,7 @@ impl MethodFault {
             MethodFault::Memory => return Err(Memory),
         };
         let words = match fault {
+            CodeFault::BadLayout(at) => format!(in alloc; "bad layout {at}")?,
             CodeFault::BadOpcode(at) => format!(in alloc; "bad opcode {at}")?,
             CodeFault::CutShort(at) => format!(in alloc; "cut short {at}")?,
             CodeFault::BadOperand(at) => format!(in alloc; "bad operand {at}")?,

@@ -1,7 +1,7 @@
 use Rattle.std.proofs.Common.{ℕ, List, ◌++◌, sym, ap, subst, ◌∙◌}
+use Rattle.je_class.specs.FileParts.{spelled, class_parts}
 use Rattle.je_class.specs.InMemory.{class_of_parts}
-use Rattle.je_class.specs.Layout.{class_layout, FitsClass}
-use Rattle.je_class.proofs.Written.{class_layout-spelled}
+use Rattle.je_class.specs.Sizes.{FitsClass}
 use Rattle.je_class.proofs.Sounds.{FitsClass-sound}
 use Rattle.je_class.proofs.writing.write_class.Goals as goal
 
@@ -10,10 +10,10 @@ put_parts-requires c = subst FitsClass (sym c.parts.ensures.parts) (FitsClass-so
 
 pub returns-clause-bytes : goal.returns-clause-bytes
 returns-clause-bytes c =
-    let put = c.in_ok-put_parts.ensures ∙ ap (λ (front : List ℕ). front ++ class_layout (class_of_parts c.parts.result.now)) c.new-out.ensures.items in
-    record { layout = put ∙ ap class_layout c.parts.ensures.parts ∙ class_layout-spelled c.args.class.now; sound = c.parts.ensures.sound }
+    let put = c.in_ok-put_parts.ensures ∙ ap (λ (front : List ℕ). front ++ spelled (class_parts (class_of_parts c.parts.result.now))) c.new-out.ensures.items in
+    record { layout = put ∙ ap (λ d. spelled (class_parts d)) c.parts.ensures.parts; sound = c.parts.ensures.sound }
 
 pub returns-clause-again : goal.returns-clause-again
 returns-clause-again c bytes spells =
-    let put = c.in_ok-put_parts.ensures ∙ ap (λ (front : List ℕ). front ++ class_layout (class_of_parts c.parts.result.now)) c.new-out.ensures.items in
-    put ∙ ap class_layout c.parts.ensures.parts ∙ class_layout-spelled c.args.class.now ∙ sym spells.layout
+    let put = c.in_ok-put_parts.ensures ∙ ap (λ (front : List ℕ). front ++ spelled (class_parts (class_of_parts c.parts.result.now))) c.new-out.ensures.items in
+    put ∙ ap (λ d. spelled (class_parts d)) c.parts.ensures.parts ∙ sym spells.layout

@@ -1,0 +1,15 @@
+pub mod Comes
+pub mod TableLemmas
+pub mod IndexLemmas
+pub mod WholeLemmas
+pub mod Same
+pub mod OneLayout
+pub mod AttrLemmas
+pub mod OneAnswer
+pub mod SomeAnswer
+pub mod WithinLemmas
+pub mod MovedLemmas
+pub mod NameLemmas
+pub mod PutLemmas
+pub mod WrittenLemmas
+pub mod BackLemmas

@@ -1,0 +1,9 @@
+pub mod Code
+pub mod Faults
+pub mod Rows
+pub mod Tables
+pub mod CodeAttr
+pub mod Reading
+pub mod Moved
+pub mod Written
+pub mod Writing
