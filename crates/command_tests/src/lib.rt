@@ -1,15 +1,11 @@
-//! Tests of instructions, scripts, edits and whole runs: je_instr and je_session.
+//! Tests of scripts, edits and whole runs: je_session.
 //!
-//! They stand apart so that each of those crates is proved once. What a clause says is not tested
-//! again: these are answers with ample memory, printed lines, and calls that fail.
+//! They stand apart so that the crate is proved once. What a clause says is not tested again: these
+//! are answers with ample memory, printed lines, and calls that fail.
 #![tactic(auto)]
 
 #[cfg(test)]
-mod decodes;
-#[cfg(test)]
 mod edits;
-#[cfg(test)]
-mod instr;
 #[cfg(test)]
 mod runs;
 #[cfg(test)]

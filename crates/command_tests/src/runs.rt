@@ -216,7 +216,8 @@ fn refused_classes(rt: HostRuntime) -> Result<(), Fail> {
     Ok(())
 }
 
-// The class A with one more constant, an interface, a field and an attribute, and with these methods.
+// The class A with one more constant, an interface, a field and an attribute, and with these
+// methods.
 fn with_members<R: AllocGlobal>(rt: &R, methods: &[u8]) -> Result<Vec<u8>, Fail> {
     let mut class = Vec::new(rt.alloc());
     for part in [

@@ -15,7 +15,7 @@ use Rattle.je_class.specs.declared.fault.ClassFault.{ClassFault}
 use Rattle.je_class.specs.declared.fault.ClassFault.TheVariants.{Truncated, BadMagic, Version}
 use Rattle.je_class.specs.declared.fault.ClassFault.TheVariants.{BadConst, BadIndex, BadDescriptor}
 use Rattle.je_class.specs.declared.fault.ClassFault.TheVariants.{BadAttribute, Memory}
-use Rattle.je_class.specs.declared.parts.TheConstants.{MAGIC}
+use Rattle.je_class.specs.declared.parts.TheConstants.{MAGIC, OLDEST_MAJOR, NEWEST_MAJOR}
 use Rattle.je_class.specs.declared.member.Attribute.{Attribute}
 use Rattle.je_class.specs.declared.member.Member.{Member}
 use Rattle.je_class.specs.Class.{Class, IsClassIndex, IsTextIndex, IsDescriptorOf}
@@ -36,7 +36,7 @@ pub data Test : Type 0 where
 
 abbrev pub Passes : Test → Type 0
 Passes (IsMagic number) = number ≡ MAGIC
-Passes (IsVersion major) = (49 ≤ major) × (major ≤ 52)
+Passes (IsVersion major) = (OLDEST_MAJOR ≤ major) × (major ≤ NEWEST_MAJOR)
 Passes (NamesClass consts index) = IsClassIndex consts index
 Passes (NamesSuper consts index) = (index ≡ 0) ⊎ IsClassIndex consts index
 Passes (NamesText consts index) = IsTextIndex consts index

@@ -4,6 +4,7 @@ use Rattle.std.specs.Prelude.{◌≡◌, ℕ, ◌^◌, ◌<◌, ◌≤◌, ◌�
 use Rattle.je_consts.specs.declared.place.Place.{Place}
 use Rattle.je_consts.specs.Pool.{text_at, IsPool}
 use Rattle.je_desc.specs.Descriptor.{FieldDescriptor}
+use Rattle.je_class.specs.declared.parts.TheConstants.{OLDEST_MAJOR, NEWEST_MAJOR}
 use Rattle.je_class.specs.declared.member.Attribute.{Attribute}
 use Rattle.je_class.specs.declared.member.Member.{Member}
 use Rattle.je_class.specs.Class.{Class, IsClassIndex, IsTextIndex, IsDescriptorOf}
@@ -39,7 +40,7 @@ pub record IsSoundInterface (consts : List Place) (index : ℕ) : Type 0 where
 
 -- what holds of each item of a class file (JVMS 4.1)
 pub record HasSoundParts (c : Class) : Type 0 where
-  pub version : (49 ≤ c.major) × (c.major ≤ 52)
+  pub version : (OLDEST_MAJOR ≤ c.major) × (c.major ≤ NEWEST_MAJOR)
   pub consts : IsPool c.consts
   pub this_class : IsClassIndex c.consts c.this_class
   pub super_class : (c.super_class ≡ 0) ⊎ IsClassIndex c.consts c.super_class

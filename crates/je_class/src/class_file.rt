@@ -1,10 +1,12 @@
 //! A class file in memory.
 
-ghost use Rattle.std.specs.Prelude.{◌≡◌, ◌≢◌, ◌^◌, ◌<◌, length, Some, IfSome, IfNone, IfOk, All, slice_get, IsSomeAnd};
+ghost use Rattle.std.specs.Prelude.{◌≡◌, ◌≢◌, ◌^◌, ◌<◌, length, Some, IfSome, IfNone, IfOk, All};
+ghost use Rattle.std.specs.Prelude.{slice_get, IsSomeAnd};
 ghost use Rattle.je_consts.specs.Adding.{Keeps};
 ghost use Rattle.je_consts.specs.Pool.{class_at};
 ghost use Rattle.je_desc.specs.Fit.{IsFit};
-ghost use Rattle.je_class.specs.Class.{IsNamed, IsMethodAt, with_attribute, with_method_attribute, with_code, changed_at};
+ghost use Rattle.je_class.specs.Class.{IsNamed, IsMethodAt, with_attribute, with_method_attribute};
+ghost use Rattle.je_class.specs.Class.{with_code, changed_at};
 ghost use Rattle.je_class.specs.FileParts.{IsSound};
 ghost use Rattle.je_class.specs.InMemory.{class_of_parts};
 ghost use Rattle.je_class.specs.Sound.{HasSoundParts};

@@ -1,6 +1,7 @@
 //! Finding a method by its name and descriptor.
 
-ghost use Rattle.std.specs.Prelude.{◌≡◌, ℕ, ◌<◌, ◌↔◌, Some, IsTrue, IfSome, IfNone, All, slice_get, IsSomeAnd};
+ghost use Rattle.std.specs.Prelude.{◌≡◌, ℕ, ◌<◌, ◌↔◌, Some, IsTrue, IfSome, IfNone, All, slice_get};
+ghost use Rattle.std.specs.Prelude.{IsSomeAnd};
 ghost use Rattle.je_consts.specs.Pool.{text_at};
 ghost use Rattle.je_class.specs.Class.{IsNamed};
 

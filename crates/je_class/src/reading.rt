@@ -1,6 +1,7 @@
 //! A class file, read from its bytes (JVMS 4.1).
 
-ghost use Rattle.std.specs.Prelude.{◌≡◌, ℕ, ◌≤◌, ◌⊎◌, ◌↔◌, ◌∷◌, [], List, length, IsTrue, IfOk, IfErr, OnOk, MatchResult};
+ghost use Rattle.std.specs.Prelude.{◌≡◌, ℕ, ◌≤◌, ◌⊎◌, ◌↔◌, ◌∷◌, [], List, length, IsTrue, IfOk};
+ghost use Rattle.std.specs.Prelude.{IfErr, OnOk, MatchResult};
 ghost use Rattle.je_base.specs.Parts.{Nested};
 ghost use Rattle.je_class.specs.declared.fault.ClassFault.{ClassFault};
 ghost use Rattle.je_class.specs.declared.member.Attribute.{Attribute};
@@ -18,16 +19,16 @@ use crate::fault::{ClassFault, MOST_BYTES};
 use crate::laws::one_class_way;
 use crate::member::{Attribute, Member};
 use crate::members::{Kind, attributes_at, interfaces_at, members_at};
-use crate::parts::{MAGIC, Parts};
+use crate::parts::{MAGIC, NEWEST_MAJOR, OLDEST_MAJOR, Parts};
 use je_base::{Run, u16_at, u32_at};
 use je_consts::{ConstFault, Consts};
 use std::alloc::Global;
 
 /// Whether class files of this major version are read.
 fn is_version(major: u16) -> bool
-    ensures { IsTrue result ↔ ((49 ≤ major) × (major ≤ 52)) }
+    ensures { IsTrue result ↔ ((OLDEST_MAJOR ≤ major) × (major ≤ NEWEST_MAJOR)) }
 {
-    (49..=52).contains(&major)
+    (OLDEST_MAJOR..=NEWEST_MAJOR).contains(&major)
 }
 
 /// The minor and the major version, behind the magic, and the offset after them.

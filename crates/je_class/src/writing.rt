@@ -6,7 +6,9 @@ ghost use Rattle.je_consts.specs.declared.place.Place.{Place};
 ghost use Rattle.je_class.specs.declared.member.Member.{Member};
 ghost use Rattle.je_class.specs.ClassBytes.{ClassBytes};
 ghost use Rattle.je_class.specs.InMemory.{class_of_parts};
-ghost use Rattle.je_class.specs.FileParts.{Test, spelled, interface_parts, attribute_parts, member_parts, start_parts, own_parts, lists_parts, class_parts};
+ghost use Rattle.je_class.specs.FileParts.{Test, spelled, interface_parts, attribute_parts};
+ghost use Rattle.je_class.specs.FileParts.{member_parts, start_parts, own_parts, lists_parts};
+ghost use Rattle.je_class.specs.FileParts.{class_parts};
 ghost use Rattle.je_class.specs.Sizes.{FitsTable, FitsAttribute, FitsMember, FitsClass};
 
 use crate::class_file::ClassFile;

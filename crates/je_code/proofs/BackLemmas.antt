@@ -22,7 +22,8 @@ use Rattle.je_code.specs.Moved.{IsLineInside, IsVarInside, AreInside}
 use Rattle.je_code.specs.Rows.{LineInfo, VarInfo, line_parts, var_parts, is_offset, index_at, end_pc, line_row, var_row, line_rows, var_rows, line_info, var_info}
 use Rattle.je_code.specs.Tables.{line_number_table, local_variable_table, local_variable_type_table, stack_map_table, is_named, first_named, ReadsTable}
 use Rattle.je_code.specs.Writing.{AreSound}
-use Rattle.je_code.specs.Written.{table_of, map_of, tables_of, IsNamed, IsWritten, attr_of}
+use Rattle.je_code.specs.Named.{table_of, map_of, tables_of, IsNamed}
+use Rattle.je_code.specs.Written.{IsWritten, attr_of}
 
 -- ---- tables by their names
 

@@ -5,7 +5,7 @@ use Rattle.je_base.specs.Text.{IsUnit, IsModifiedUtf8}
 use Rattle.je_code.specs.declared.named.Named.{Named}
 use Rattle.je_code.specs.Code.{Part, spelled}
 use Rattle.je_base.specs.Parts.{table_parts}
-use Rattle.je_code.specs.Written.{table_of}
+use Rattle.je_code.specs.Named.{table_of}
 
 -- ---- texts
 

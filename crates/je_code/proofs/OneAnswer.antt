@@ -78,7 +78,7 @@ module _ (way : OneWay code_format) where
       agree : (c d : Code) (o p : Result ℕ CodeFault) → Comes info 0 (code_parts c) o → Comes info 0 (code_parts d) p → Agree (code_parts c) (code_parts d) o p
       agree c d o p h k = way.agree info 0 (code_parts c) (code_parts d) o p (code_one c d) h k
 
-      one_bytes : (c d : Code) → CodeBytes info c → CodeBytes info d → c ≡ d
+      pub one_bytes : (c d : Code) → CodeBytes info c → CodeBytes info d → c ≡ d
       one_bytes c d h k = code_same c d (comes_all way (code_one c d) (parts_of_code k) (whole_comes info (code_parts c) (parts_of_code h))).0
 
       longer : (front rest : List ℕ) → info ≡ front ++ rest → rest ≢ [] → length front < length info
@@ -105,12 +105,14 @@ module _ (way : OneWay code_format) where
             let there = subst (λ (c : Code). IsTabled consts c b.decoded b) (sym code) (tabled_of b k) in
             tabled_same h.code a.decoded a b (tabled_of a h) (subst (λ (d : Decoded). IsTabled consts h.code d b) (sym decoded) there)
 
+        pub decoded_no_fault : (c : Code) (d : Decoded) (f : CodeFault) → CodeBytes info c → Decodes consts c.code c.handlers d → FirstFault consts info f → ⊥
+        decoded_no_fault c d _ is decodes (breaks b f k) = no_breaks c b f is (record { goes = k })
+        decoded_no_fault c d _ is decodes (trailing b front rest e some k) = no_trailing c b front rest is e some k
+        decoded_no_fault c d _ is decodes (malformed b f k first) =
+            decode.no_fault consts c.code c.handlers d f decodes (subst (λ (x : Code). decoding.FirstFault consts x.code x.handlers f) (one_bytes b c k is) first)
+
         pub no_fault : (a : CodeAttr) (f : CodeFault) → IsCodeAttr consts info a → FirstFault consts info f → ⊥
-        no_fault a _ h (breaks c f b) = no_breaks h.code c f h.bytes (record { goes = b })
-        no_fault a _ h (trailing c front rest e some k) = no_trailing h.code c front rest h.bytes e some k
-        no_fault a _ h (malformed c f k first) =
-            let code = one_bytes c h.code k h.bytes in
-            decode.no_fault consts h.code.code h.code.handlers a.decoded f h.decodes (subst (λ (d : Code). decoding.FirstFault consts d.code d.handlers f) code first)
+        no_fault a f h = decoded_no_fault h.code a.decoded f h.bytes h.decodes
 
         pub one_fault : (f g : CodeFault) → FirstFault consts info f → FirstFault consts info g → f ≡ g
         one_fault _ _ (breaks c f b) (breaks d g k) = agree c d (Err f) (Err g) (record { goes = b }) (record { goes = k })

@@ -18,7 +18,8 @@ use Rattle.je_code.specs.Code.{Part, code_format, spelled, IsSound, attribute_pa
 use Rattle.je_code.specs.Rows.{line_info, var_info, line_parts, var_parts}
 use Rattle.je_code.specs.Tables.{line_number_table, local_variable_table, local_variable_type_table}
 use Rattle.je_code.specs.Writing.{head_parts, HasShortName, PutsAll}
-use Rattle.je_code.specs.Written.{table_of, map_of, tables_of, IsNamed, IsWritten, names_of, AddsTexts}
+use Rattle.je_code.specs.Named.{table_of, map_of, tables_of, IsNamed}
+use Rattle.je_code.specs.Written.{IsWritten, names_of, AddsTexts}
 
 -- ---- parts
 

@@ -5,5 +5,6 @@ pub mod Tables
 pub mod CodeAttr
 pub mod Reading
 pub mod Moved
+pub mod Named
 pub mod Written
 pub mod Writing

@@ -15,7 +15,7 @@ use Rattle.je_code.specs.declared.rows.VarRow.{VarRow}
 use Rattle.je_code.specs.Code.{AttributeInfo, Part, spelled, IsCodeLength, IsSound, handler_parts}
 use Rattle.je_code.specs.Code.{attribute_parts}
 use Rattle.je_code.specs.Rows.{line_parts, var_parts, line_info, var_info}
-use Rattle.je_code.specs.Written.{Named, IsNamed}
+use Rattle.je_code.specs.Named.{Named, IsNamed}
 
 -- what stands before the attributes of a Code
 abbrev pub head_parts : ℕ → ℕ → List ℕ → List RawHandler → List Part

@@ -4,8 +4,10 @@ ghost use Rattle.std.specs.Prelude.{◌≡◌, ℕ, ◌^◌, ◌<◌, List, slic
 ghost use Rattle.je_base.specs.Parts.{OneWay};
 ghost use Rattle.je_consts.specs.declared.place.Place.{Place};
 ghost use Rattle.je_instr.specs.declared.fault.CodeFault.{CodeFault};
+ghost use Rattle.je_instr.specs.declared.program.Decoded.{Decoded};
+ghost use Rattle.je_instr.specs.Decoding.{Decodes};
 ghost use Rattle.je_code.specs.declared.attr.CodeAttr.{CodeAttr};
-ghost use Rattle.je_code.specs.Code.{Test, code_format};
+ghost use Rattle.je_code.specs.Code.{Test, Code, CodeBytes, code_format};
 ghost use Rattle.je_code.specs.CodeAttr.{IsCodeAttr};
 ghost use Rattle.je_code.specs.Faults.{FirstFault};
 
@@ -39,8 +41,14 @@ pub fn one_code()
         ((i : ℕ) → slice_index info i < 2 ^ 8)
         → ((a : CodeAttr) → IsCodeAttr consts info a → ⊥)
         → ((f : CodeFault) → FirstFault consts info f → ⊥) → ⊥ }
+    // Bytes have one layout, whatever the constants are.
+    ensures layout { (info : List ℕ) (a b : Code) → CodeBytes info a → CodeBytes info b → a ≡ b }
     ensures same { (consts : List Place) (info : List ℕ) (a b : CodeAttr) →
         IsCodeAttr consts info a → IsCodeAttr consts info b → a ≡ b }
+    // Where the code decodes there is no fault, whatever the tables are.
+    ensures decoded_no_fault { (consts : List Place) (info : List ℕ) (c : Code) (d : Decoded)
+        (f : CodeFault) → CodeBytes info c → Decodes consts c.code c.handlers d →
+        FirstFault consts info f → ⊥ }
     ensures no_fault { (consts : List Place) (info : List ℕ) (a : CodeAttr) (f : CodeFault) →
         IsCodeAttr consts info a → FirstFault consts info f → ⊥ }
     ensures one_fault { (consts : List Place) (info : List ℕ) (f g : CodeFault) →

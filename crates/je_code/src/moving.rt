@@ -3,7 +3,8 @@
 ghost use Rattle.std.specs.Prelude.{◌≡◌, ◌<◌, length, slice_index, IfOk};
 ghost use Rattle.std.specs.List.{AllByRecursion};
 ghost use Rattle.je_code.specs.CodeAttr.{HasRowsWithin};
-ghost use Rattle.je_code.specs.Moved.{line_under, var_under, moved_lines, moved_vars, moved, IsNewOf, AreInside, HaveCounts};
+ghost use Rattle.je_code.specs.Moved.{line_under, var_under, moved_lines, moved_vars, moved};
+ghost use Rattle.je_code.specs.Moved.{IsNewOf, AreInside, HaveCounts};
 
 use crate::attr::CodeAttr;
 use crate::rows::{LineRow, Tables, VarRow};

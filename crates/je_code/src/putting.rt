@@ -1,6 +1,7 @@
 //! The attributes of a Code, put behind one another (JVMS 4.7).
 
-ghost use Rattle.std.specs.Prelude.{◌≡◌, ℕ, ◌^◌, ◌<◌, ◌≤◌, ◌⊎◌, ◌++◌, List, Some, None, Ok, Err, length, IfErr, OnOk};
+ghost use Rattle.std.specs.Prelude.{◌≡◌, ℕ, ◌^◌, ◌<◌, ◌≤◌, ◌⊎◌, ◌++◌, List, Some, None, Ok, Err};
+ghost use Rattle.std.specs.Prelude.{length, IfErr, OnOk};
 ghost use Rattle.std.specs.List.{AllByRecursion};
 ghost use Rattle.je_base.specs.Bytes.{attribute_info};
 ghost use Rattle.je_consts.specs.declared.constant.Const.{Const};

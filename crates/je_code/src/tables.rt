@@ -8,7 +8,7 @@ ghost use Rattle.je_code.specs.Moved.{IsLineInside, IsVarInside, AreInside, Have
 ghost use Rattle.je_code.specs.Rows.{line_info, line_parts, var_info, var_parts};
 ghost use Rattle.je_code.specs.Tables.{line_number_table};
 ghost use Rattle.je_code.specs.Writing.{AreShort, AreSound, line_table, var_table};
-ghost use Rattle.je_code.specs.Written.{map_of, table_of, tables_of};
+ghost use Rattle.je_code.specs.Named.{map_of, table_of, tables_of};
 
 use crate::named::{Named, with_name};
 use crate::names::{

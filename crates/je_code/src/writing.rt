@@ -1,6 +1,7 @@
 //! The content of a Code attribute, written (JVMS 4.7.3).
 
-ghost use Rattle.std.specs.Prelude.{◌≡◌, ◌-◌, ◌+◌, ◌≤◌, ◌<◌, ◌⊎◌, ◌++◌, ℕ, List, Option, Some, None, Err, length, vec_len, IfOk, IfErr, OnOk, option_map};
+ghost use Rattle.std.specs.Prelude.{◌≡◌, ◌-◌, ◌+◌, ◌≤◌, ◌<◌, ◌⊎◌, ◌++◌, ℕ, List, Option, Some};
+ghost use Rattle.std.specs.Prelude.{None, Err, length, vec_len, IfOk, IfErr, OnOk, option_map};
 ghost use Rattle.je_base.specs.Bytes.{u2};
 ghost use Rattle.je_base.specs.Parts.{table_parts};
 ghost use Rattle.je_consts.specs.declared.fault.PoolStop.{PoolStop};
@@ -13,7 +14,10 @@ ghost use Rattle.je_code.specs.Code.{spelled, handler_parts, IsSound};
 ghost use Rattle.je_code.specs.CodeAttr.{IsCodeAttr};
 ghost use Rattle.je_code.specs.Moved.{AreInside};
 ghost use Rattle.je_code.specs.Writing.{head_parts};
-ghost use Rattle.je_code.specs.Written.{IsWritten, AddsTexts, CanBeWritten, attr_of, map_of, names_of, tables_of};
+ghost use Rattle.je_code.specs.Named.{map_of};
+ghost use Rattle.je_code.specs.Written.{IsWritten, AddsTexts, CanBeWritten, attr_of};
+ghost use Rattle.je_code.specs.Named.{tables_of};
+ghost use Rattle.je_code.specs.Written.{names_of};
 
 use crate::named::Named;
 use crate::putting::put_attributes;

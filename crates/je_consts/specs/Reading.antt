@@ -41,17 +41,30 @@ Gives view (Err e) read = Fails e read
 abbrev pub between : ℕ → ℕ → ℕ → Bool
 between low high b = nat_le low b && nat_le b high
 
+-- the sorts of bytes of modified UTF-8 (JVMS 4.4.7), as tests
+abbrev pub is_single : ℕ → Bool
+is_single b = between 0x01 0x7f b
+
+abbrev pub is_first_of_two : ℕ → Bool
+is_first_of_two b = between 0xc0 0xdf b
+
+abbrev pub is_first_of_three : ℕ → Bool
+is_first_of_three b = between 0xe0 0xef b
+
+abbrev pub is_continuation : ℕ → Bool
+is_continuation b = between 0x80 0xbf b
+
 -- the bytes are modified UTF-8 once so many continuations have come
 abbrev pub is_text_after : ℕ → List ℕ → Bool
 is_text_after zero [] = true
 is_text_after (suc wanted) [] = false
 is_text_after zero (b ∷ rest) =
-    if between 0x01 0x7f b then is_text_after 0 rest
-    else if between 0xc0 0xdf b then is_text_after 1 rest
-    else if between 0xe0 0xef b then is_text_after 2 rest
+    if is_single b then is_text_after 0 rest
+    else if is_first_of_two b then is_text_after 1 rest
+    else if is_first_of_three b then is_text_after 2 rest
     else false
 is_text_after (suc wanted) (b ∷ rest) =
-    if between 0x80 0xbf b then is_text_after wanted rest else false
+    if is_continuation b then is_text_after wanted rest else false
 
 unfoldable pub is_text : List ℕ → Bool
 is_text bytes = is_text_after 0 bytes

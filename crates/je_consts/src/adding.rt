@@ -1,6 +1,7 @@
 //! Entries that are added to a constant pool.
 
-ghost use Rattle.std.specs.Prelude.{◌≡◌, ℕ, ◌+◌, ◌++◌, ◌^◌, ◌<◌, ◌↔◌, length, Some, IsTrue, IfSome, IfNone, IfOk, OnOk, OnErr, Err};
+ghost use Rattle.std.specs.Prelude.{◌≡◌, ℕ, ◌+◌, ◌++◌, ◌^◌, ◌<◌, ◌↔◌, length, Some, IsTrue, IfSome};
+ghost use Rattle.std.specs.Prelude.{IfNone, IfOk, OnOk, OnErr, Err};
 ghost use Rattle.je_consts.specs.Adding.{IsLawful, IsMissing, IsLeastIndex};
 ghost use Rattle.je_consts.specs.Indexed.{IsIndexOf};
 ghost use Rattle.je_consts.specs.Pool.{places_of, entry_of, Fits};

@@ -2,7 +2,8 @@
 
 ghost use Rattle.std.specs.Prelude.{◌≡◌, ℕ, ◌≤◌, ◌⊎◌, List, Some, Err, length, IfOk};
 ghost use Rattle.je_consts.specs.declared.place.Place.{Place};
-ghost use Rattle.je_consts.specs.Adding.{IsFull, Adds, AddsClass, AddsNameAndType, AddsMember, NamesMember, Keeps, member_of};
+ghost use Rattle.je_consts.specs.Adding.{IsFull, Adds, AddsClass, AddsNameAndType, AddsMember};
+ghost use Rattle.je_consts.specs.Adding.{NamesMember, Keeps, member_of};
 ghost use Rattle.je_consts.specs.Pool.{const_at, class_at, NamesAndTypes};
 ghost use Rattle.je_consts.specs.Tags.{most_bytes};
 

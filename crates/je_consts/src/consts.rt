@@ -1,6 +1,8 @@
 //! A constant pool in memory.
 
-ghost use Rattle.std.specs.Prelude.{◌≡◌, ℕ, ◌+◌, ◌^◌, ◌<◌, ◌≤◌, ◌⊎◌, ◌++◌, List, Some, Err, length, vec_len, slice_range, IfOk, IfErr, IfSome, IfNone, OnOk, OnErr, MatchResult};
+ghost use Rattle.std.specs.Prelude.{◌≡◌, ℕ, ◌+◌, ◌^◌, ◌<◌, ◌≤◌, ◌⊎◌, ◌++◌, List, Some, Err, length};
+ghost use Rattle.std.specs.Prelude.{vec_len, slice_range, IfOk, IfErr, IfSome, IfNone, OnOk, OnErr};
+ghost use Rattle.std.specs.Prelude.{MatchResult};
 ghost use Rattle.std.specs.Option.{option_copied};
 ghost use Rattle.je_consts.specs.declared.fault.ConstFault.{ConstFault};
 ghost use Rattle.je_consts.specs.declared.place.Place.{Place};

@@ -2,7 +2,8 @@
 
 ghost use Rattle.std.specs.Prelude.{◌≤◌, length, slice_range};
 ghost use Rattle.std.specs.Int.{w16, w32, w64};
-ghost use Rattle.je_consts.specs.Reading.{Gives, integer_of, long_of, text_from, one_at, two_at, utf8_at, handle_at, info_at, entry_at};
+ghost use Rattle.je_consts.specs.Reading.{Gives, integer_of, long_of, text_from, one_at, two_at};
+ghost use Rattle.je_consts.specs.Reading.{utf8_at, handle_at, info_at, entry_at};
 
 use crate::constant::{Const, ConstIndex};
 use crate::fault::ConstFault;

@@ -1,6 +1,7 @@
 //! The index by which an add finds the entries that are there.
 
-ghost use Rattle.std.specs.Prelude.{◌≡◌, ℕ, ◌+◌, ◌^◌, ◌<◌, ◌≤◌, List, [], ◌∷◌, ◌++◌, length, take, IfOk, IfSome, IfNone};
+ghost use Rattle.std.specs.Prelude.{◌≡◌, ℕ, ◌+◌, ◌^◌, ◌<◌, ◌≤◌, List, [], ◌∷◌, ◌++◌, length, take};
+ghost use Rattle.std.specs.Prelude.{IfOk, IfSome, IfNone};
 ghost use Rattle.je_consts.specs.declared.place.Place.{Place};
 ghost use Rattle.je_consts.specs.Adding.{IsMissing, IsLeastIndex};
 ghost use Rattle.je_consts.specs.Indexed.{answer, IsIndexOf};

@@ -2,7 +2,8 @@
 
 ghost use Rattle.std.specs.Prelude.{◌≡◌};
 ghost use Rattle.std.specs.Option.{option_copied, option_map};
-ghost use Rattle.je_consts.specs.Pool.{text_at, class_at, name_and_type_at, named_member, member_at};
+ghost use Rattle.je_consts.specs.Pool.{text_at, class_at, name_and_type_at, named_member};
+ghost use Rattle.je_consts.specs.Pool.{member_at};
 
 use crate::constant::{Const, ConstIndex, Member, MemberTag};
 use crate::consts::Consts;

@@ -1,5 +1,6 @@
 -- What is decoded is a program, and the constants allow its operands.
-use Rattle.std.proofs.Common.{◌≡◌, ℕ, zero, suc, ◌<◌, ◌≤◌, List, [], ◌∷◌, ◌++◌, length, get_or, is_some, refl, sym, ap, subst, ◌⊎◌, inl, inr, arith}
+use Rattle.std.proofs.Common.{◌≡◌, ℕ, zero, suc, ◌<◌, ◌≤◌, List, [], ◌∷◌, ◌++◌, length, get_or}
+use Rattle.std.proofs.Common.{is_some, refl, sym, ap, subst, ◌⊎◌, inl, inr, arith}
 use Rattle.std.specs.List.{AllByRecursion, AllZip}
 use Rattle.std.proofs.lemmas.Bool.{cases_lt}
 use Rattle.std.proofs.lemmas.List.{length-append}
@@ -15,7 +16,8 @@ use Rattle.je_instr.specs.declared.program.Handler.{Handler}
 use Rattle.je_instr.specs.declared.program.RawHandler.{RawHandler}
 use Rattle.je_instr.specs.Allowed.{AreKeys, AreRising, IsClass, HasDimensions, IsAllowed}
 use Rattle.je_desc.specs.FieldType.{FieldType}
-use Rattle.je_instr.specs.Assembling.{IsInRange, IsWithinProgram, IsProgram, IsCaught, AllowsProgram}
+use Rattle.je_instr.specs.Assembling.{IsInRange, IsWithinProgram, IsProgram, IsCaught}
+use Rattle.je_instr.specs.Assembling.{AllowsProgram}
 use Rattle.je_instr.specs.CodeProgram.{HasTargets}
 use Rattle.je_desc.specs.Names.{IsClassName}
 use Rattle.je_instr.specs.Content.{Names}

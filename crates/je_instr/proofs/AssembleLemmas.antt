@@ -1,5 +1,7 @@
 -- What a program is assembled to decodes to the program.
-use Rattle.std.proofs.Common.{◌≡◌, ℕ, zero, suc, ◌+◌, ◌*◌, ◌-◌, ◌%◌, ◌^◌, ◌<◌, ◌≤◌, Bool, true, false, cond, List, [], ◌∷◌, ◌++◌, length, map, get_or, ℤ, pos, negsuc, FitsSigned, refl, sym, ap, subst, inl, inr, arith}
+use Rattle.std.proofs.Common.{◌≡◌, ℕ, zero, suc, ◌+◌, ◌*◌, ◌-◌, ◌%◌, ◌^◌, ◌<◌, ◌≤◌, Bool, true}
+use Rattle.std.proofs.Common.{false, cond, List, [], ◌∷◌, ◌++◌, length, map, get_or, ℤ, pos, negsuc}
+use Rattle.std.proofs.Common.{FitsSigned, refl, sym, ap, subst, inl, inr, arith}
 use Rattle.std.specs.List.{AllByRecursion, AllZip, flat_map}
 use Rattle.std.specs.Int.{w16}
 use Rattle.std.proofs.lemmas.Bool.{cases_lt}
@@ -16,16 +18,26 @@ use Rattle.je_instr.specs.declared.program.Handler.{Handler}
 use Rattle.je_instr.specs.declared.program.Program.{Program}
 use Rattle.je_instr.specs.declared.program.RawHandler.{RawHandler}
 use Rattle.je_instr.specs.Allowed.{AreKeys, AreRising, IsAllowed}
-use Rattle.je_instr.specs.Assembling.{IsInRange, IsWithinProgram, IsProgram, IsCaught, AllowsProgram, IsFar, AreNear, raw_handler, IsAssembled, placed}
+use Rattle.je_instr.specs.Assembling.{IsInRange, IsWithinProgram, IsProgram, IsCaught}
+use Rattle.je_instr.specs.Assembling.{AllowsProgram, IsFar, AreNear, raw_handler, IsAssembled}
+use Rattle.je_instr.specs.Assembling.{placed}
 use Rattle.je_instr.specs.CodeProgram.{HasTargets}
 use Rattle.je_instr.specs.Decoding.{Follow, Begins, BeginsCase, Leads, IsEntry, Decodes}
 use Rattle.je_instr.specs.Forms.{form_at}
 use Rattle.je_instr.specs.Offsets.{AreShort, HasWidths}
-use Rattle.je_instr.specs.Shortest.{s4, push_bytes, push_size, local_bytes, local_size, iinc_bytes, iinc_size, ldc_bytes, ldc_size, distance, padding, target_bytes, case_bytes, last_key, table_bytes, lookup_bytes, short_size, short_end, short_offsets, short_bytes, short_code}
+use Rattle.je_instr.specs.Shortest.{s4, push_bytes, push_size, local_bytes, local_size, iinc_bytes}
+use Rattle.je_instr.specs.Shortest.{iinc_size, ldc_bytes, ldc_size, distance, padding, target_bytes}
+use Rattle.je_instr.specs.Shortest.{case_bytes, last_key, table_bytes, lookup_bytes, short_size}
+use Rattle.je_instr.specs.Shortest.{short_end, short_offsets, short_bytes, short_code}
 use Rattle.je_instr.proofs.HoldLemmas.{Holds, holds_front, holds_back}
 use Rattle.je_instr.proofs.LayoutLemmas.{size_some, end_from}
 use Rattle.je_instr.proofs.PlaceLemmas.{begins}
-use Rattle.je_instr.proofs.ShortLemmas.{ok, simple_there, indexed, ldc2_form, new_form, anewarray_form, checkcast_form, instanceof_form, field_form, invoke_form, push_there, ldc_there, local_there, iinc_there, goto_form, branch_form, jumps, interface_there, dynamic_there, newarray_there, multi_there, moved}
+use Rattle.je_instr.proofs.OpcodeFormLemmas.{ok, simple_there, indexed, ldc2_form, new_form}
+use Rattle.je_instr.proofs.OpcodeFormLemmas.{anewarray_form, checkcast_form, instanceof_form}
+use Rattle.je_instr.proofs.OpcodeFormLemmas.{field_form, invoke_form}
+use Rattle.je_instr.proofs.ShortLemmas.{push_there, ldc_there, local_there, iinc_there}
+use Rattle.je_instr.proofs.ShortLemmas.{goto_form, branch_form, jumps, interface_there}
+use Rattle.je_instr.proofs.ShortLemmas.{dynamic_there, newarray_there, multi_there, moved}
 use Rattle.je_instr.proofs.SizeLemmas.{offsets_short}
 use Rattle.je_instr.proofs.SwitchLemmas.{table_there, lookup_there}
 

@@ -1,13 +1,16 @@
 -- What constants are allowed to say, by what was looked up.
-use Rattle.std.proofs.Common.{◌≡◌, ℕ, ◌-◌, ◌<◌, arith, Bool, true, List, Option, Some, None, refl, sym, ap, subst, ◌∙◌, ◌⊎◌, ◌↔◌, inl, inr}
+use Rattle.std.proofs.Common.{◌≡◌, ℕ, ◌-◌, ◌<◌, arith, Bool, true, List, Option, Some, None, refl}
+use Rattle.std.proofs.Common.{sym, ap, subst, ◌∙◌, ◌⊎◌, ◌↔◌, inl, inr}
 use Rattle.std.specs.Prelude.{IsTrue}
 use Rattle.je_consts.specs.declared.constant.MemberTag.{MemberTag}
-use Rattle.je_machine.specs.Content.{Content, Integer, Float, LongInteger, Double, Class, Str, Member, MethodHandle, MethodType, InvokeDynamic}
+use Rattle.je_machine.specs.Content.{Content, Integer, Float, LongInteger, Double, Class, Str}
+use Rattle.je_machine.specs.Content.{Member, MethodHandle, MethodType, InvokeDynamic}
 use Rattle.std.specs.Prelude.{◌≢◌, IfSome, IfNone}
 use Rattle.je_desc.specs.Descriptor.{MethodTypes, units_of_params}
 use Rattle.je_consts.specs.declared.constant.MemberTag.TheVariants as tags
 use Rattle.je_machine.specs.Action.{Sort, Interface, Dynamic}
-use Rattle.je_instr.specs.Allowed.{IsClass, IsClassText, IsField, AllowsField, IsMethod, IsDynamic, Calls, AllowsCall, AllowsCounted, AllowsLdc, AllowsLdc2}
+use Rattle.je_instr.specs.Allowed.{IsClass, IsClassText, IsField, AllowsField, IsMethod, IsDynamic}
+use Rattle.je_instr.specs.Allowed.{Calls, AllowsCall, AllowsCounted, AllowsLdc, AllowsLdc2}
 use Rattle.je_instr.proofs.DescriptorLemmas.{one_method}
 use Rattle.je_instr.specs.Views.{of_class, of_any, of_dynamic, is_loaded, is_wide, CallsWith}
 

@@ -1,5 +1,6 @@
 -- What the entries of a constant pool say.
-use Rattle.std.proofs.Common.{◌≡◌, ℕ, zero, suc, List, [], ◌∷◌, Option, Some, None, refl, subst, arith, IsSomeAnd}
+use Rattle.std.proofs.Common.{◌≡◌, ℕ, zero, suc, List, [], ◌∷◌, Option, Some, None, refl, subst}
+use Rattle.std.proofs.Common.{arith, IsSomeAnd}
 use Rattle.std.specs.Prelude.{IsSome, slice_get, option_and_then}
 use Rattle.std.specs.List.{AllByRecursion}
 use Rattle.std.specs.Option.{option_map}
@@ -9,11 +10,15 @@ use Rattle.je_consts.specs.declared.constant.MemberTag.{MemberTag}
 use Rattle.je_consts.specs.declared.place.Place.{Place}
 use Rattle.je_consts.specs.declared.place.Place.TheVariants.{Entry, Second}
 use Rattle.je_consts.specs.Adding.{NamesMember}
-use Rattle.je_consts.specs.Pool.{tag, tag_at, entry_of, const_at, text_of, text_at, class_of, class_at, NamesAndTypes, IsMemberTag, Names, OfEntry, IsPool, name_and_type_of, name_and_type_at}
+use Rattle.je_consts.specs.Pool.{tag, tag_at, entry_of, const_at, text_of, text_at, class_of}
+use Rattle.je_consts.specs.Pool.{class_at, NamesAndTypes, IsMemberTag, Names, OfEntry, IsPool}
+use Rattle.je_consts.specs.Pool.{name_and_type_of, name_and_type_at}
 use Rattle.je_consts.specs.declared.constant.MemberTag.TheVariants.{Field, Method, InterfaceMethod}
-use Rattle.je_machine.specs.Content.{Content, Class, Str, Member, NameAndType, MethodHandle, MethodType, InvokeDynamic}
-use Rattle.je_instr.specs.Content.{of_text, of_name_and_type, of_member, handle_of, content_of, content_at}
-use Rattle.je_instr.proofs.SpellingLemmas.{some_is}
+use Rattle.je_machine.specs.Content.{Content, Class, Str, Member, NameAndType, MethodHandle}
+use Rattle.je_machine.specs.Content.{MethodType, InvokeDynamic}
+use Rattle.je_instr.specs.Content.{of_text, of_name_and_type, of_member, handle_of, content_of}
+use Rattle.je_instr.specs.Content.{content_at}
+use Rattle.je_instr.proofs.OperationLemmas.{some_is}
 
 named_pair : (consts : List Place) (i : ℕ) (name descriptor : List ℕ) → NamesAndTypes consts i name descriptor → name_and_type_at consts i ≡ Some (name, descriptor)
 named_pair consts i name descriptor (n, d, here, text, type) = rw (here, text, type) refl

@@ -1,5 +1,6 @@
 -- Code and an exception table are one program at most, or have one first fault.
-use Rattle.std.proofs.Common.{◌≡◌, ℕ, ◌+◌, ◌<◌, ℤ, List, [], ◌∷◌, ◌++◌, length, refl, sym, ap, subst, ◌∙◌, ◌⊎◌, inl, inr}
+use Rattle.std.proofs.Common.{◌≡◌, ℕ, ◌+◌, ◌<◌, ℤ, List, [], ◌∷◌, ◌++◌, length, refl, sym, ap}
+use Rattle.std.proofs.Common.{subst, ◌∙◌, ◌⊎◌, inl, inr}
 use Rattle.std.specs.List.{AllZip}
 use Rattle.je_consts.specs.declared.place.Place.{Place}
 use Rattle.je_instr.specs.declared.fault.CodeFault.{CodeFault}
@@ -10,11 +11,14 @@ use Rattle.je_instr.specs.declared.instr.Instr.TheVariants as instr
 use Rattle.je_instr.specs.declared.program.Decoded.{Decoded}
 use Rattle.je_instr.specs.declared.program.Handler.{Handler}
 use Rattle.je_instr.specs.declared.program.RawHandler.{RawHandler}
-use Rattle.je_instr.specs.Decoding.{Follow, IsStop, Begins, BeginsCase, Leads, IsFirstNowhere, IsEntry, IsFirstNoEntry, Decodes, FirstFault, stops, nowhere, no_entry}
+use Rattle.je_instr.specs.Decoding.{Follow, IsStop, Begins, BeginsCase, Leads, IsFirstNowhere}
+use Rattle.je_instr.specs.Decoding.{IsEntry, IsFirstNoEntry, Decodes, FirstFault, stops, nowhere}
+use Rattle.je_instr.specs.Decoding.{no_entry}
 use Rattle.je_instr.specs.Indexing.{AreApart}
 use Rattle.je_instr.specs.Walking.{StopsAt}
 use Rattle.je_instr.proofs.ZipLemmas.{zip_once}
-use Rattle.je_instr.proofs.FollowLemmas.{follow_once, follow_no_stop, stops_once, begins_once, ends_once}
+use Rattle.je_instr.proofs.FollowLemmas.{follow_once, follow_no_stop, stops_once, begins_once}
+use Rattle.je_instr.proofs.FollowLemmas.{ends_once}
 
 -- ---- targets
 

@@ -1,11 +1,14 @@
 -- A text is the descriptor of one type at most, and of one method's types.
-use Rattle.std.proofs.Common.{◌≡◌, ◌≢◌, ℕ, List, [], ◌∷◌, ◌++◌, Option, Some, None, refl, sym, ap, ◌∙◌, arith, append_assoc}
+use Rattle.std.proofs.Common.{◌≡◌, ◌≢◌, ℕ, List, [], ◌∷◌, ◌++◌, Option, Some, None, refl, sym, ap}
+use Rattle.std.proofs.Common.{◌∙◌, arith, append_assoc}
 use Rattle.std.specs.Prelude.{IfSome, ◌==◌, if◌then◌else◌}
 use Rattle.std.specs.List.{AllByRecursion, flat_map}
 use Rattle.std.proofs.lemmas.List.{append-nil}
 use Rattle.std.proofs.lemmas.List.Elements.{recursion_from_All}
 use Rattle.je_desc.specs.Names.{IsNameByte}
-use Rattle.je_desc.specs.FieldType.{BaseType, Byte, Char, Double, Float, Int, Long, Short, Boolean, FieldType, Base, Object, Array, HasName, IsFieldType, letter, descriptor}
+use Rattle.je_desc.specs.FieldType.{BaseType, Byte, Char, Double, Float, Int, Long, Short, Boolean}
+use Rattle.je_desc.specs.FieldType.{FieldType, Base, Object, Array, HasName, IsFieldType, letter}
+use Rattle.je_desc.specs.FieldType.{descriptor}
 use Rattle.je_desc.specs.Descriptor.{MethodTypes, SpellsField, SpellsMethod, return_descriptor}
 
 same_head : (a b : ℕ) (xs ys : List ℕ) → a ∷ xs ≡ b ∷ ys → a ≡ b

@@ -1,5 +1,6 @@
 -- What stands at an offset ends behind it, and within the code.
-use Rattle.std.proofs.Common.{◌≡◌, ℕ, ◌+◌, ◌*◌, ◌^◌, ◌<◌, ◌≤◌, Bool, true, false, cond, List, length, Result, Ok, Err, refl, subst, arith}
+use Rattle.std.proofs.Common.{◌≡◌, ℕ, ◌+◌, ◌*◌, ◌^◌, ◌<◌, ◌≤◌, Bool, true, false, cond, List}
+use Rattle.std.proofs.Common.{length, Result, Ok, Err, refl, subst, arith}
 use Rattle.std.specs.Prelude.{nat_lt, nat_eq, nat_le, int_lt, ◌||◌}
 use Rattle.std.proofs.lemmas.Bool.{ltb-false}
 use Rattle.je_instr.specs.declared.fault.CodeFault.{CodeFault}
@@ -7,7 +8,9 @@ use Rattle.je_instr.specs.declared.fault.CodeFault.TheVariants.{CutShort}
 use Rattle.je_instr.specs.declared.instr.Instr.{Instr}
 use Rattle.je_instr.specs.declared.instr.Instr.TheVariants.{Local, Iinc, TableSwitch, LookupSwitch}
 use Rattle.je_instr.specs.declared.opcodes.TheConstants as op
-use Rattle.je_instr.specs.Forms.{Read, between, u1_at, u2_at, u4_at, s2_at, s4_at, far, size_of, fixed_form, sized, wide_form, aligned, targets_at, cases_at, count_between, table_form, lookup_form, form_at}
+use Rattle.je_instr.specs.Forms.{Read, between, u1_at, u2_at, u4_at, s2_at, s4_at, far, size_of}
+use Rattle.je_instr.specs.Forms.{fixed_form, sized, wide_form, aligned, targets_at, cases_at}
+use Rattle.je_instr.specs.Forms.{count_between, table_form, lookup_form, form_at}
 
 pub record IsWithin (code : List ℕ) (at end : ℕ) : Type 0 where
   pub grows : at < end

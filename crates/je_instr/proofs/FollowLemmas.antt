@@ -1,5 +1,6 @@
 -- Instructions that stand one behind the other: one more behind them, and that no others stand there.
-use Rattle.std.proofs.Common.{◌≡◌, ℕ, zero, suc, ◌+◌, ◌<◌, ◌≤◌, List, [], ◌∷◌, ◌++◌, length, Ok, Err, refl, sym, ap, subst, ◌∙◌, arith, inl, inr}
+use Rattle.std.proofs.Common.{◌≡◌, ℕ, zero, suc, ◌+◌, ◌<◌, ◌≤◌, List, [], ◌∷◌, ◌++◌, length, Ok}
+use Rattle.std.proofs.Common.{Err, refl, sym, ap, subst, ◌∙◌, arith, inl, inr}
 use Rattle.je_consts.specs.declared.place.Place.{Place}
 use Rattle.je_instr.specs.declared.fault.CodeFault.{CodeFault}
 use Rattle.je_instr.specs.declared.instr.Instr.{Instr}

@@ -1,22 +1,31 @@
 -- What constants say, and what instructions are, stays while the pool grows.
-use Rattle.std.proofs.Common.{◌≡◌, ℕ, Bool, List, [], ◌∷◌, Option, Some, None, refl}
+use Rattle.std.proofs.Common.{◌≡◌, ℕ, Bool, List, [], ◌∷◌, length, Option, Some, None, refl, ◌⊎◌}
+use Rattle.std.proofs.Common.{inl, inr}
 use Rattle.std.specs.Prelude.{option_and_then}
 use Rattle.std.specs.List.{AllZip}
 use Rattle.je_consts.specs.declared.constant.Const.{Const}
 use Rattle.je_consts.specs.declared.constant.Const.TheVariants as entry
 use Rattle.je_consts.specs.declared.place.Place.{Place}
 use Rattle.je_consts.specs.Adding.{Keeps}
-use Rattle.je_consts.specs.Pool.{const_at, text_of, text_at, class_of, class_at, name_and_type_of, name_and_type_at}
+use Rattle.je_consts.specs.Pool.{const_at, text_of, text_at, class_of, class_at, name_and_type_of}
+use Rattle.je_consts.specs.Pool.{name_and_type_at}
 use Rattle.je_instr.specs.declared.instr.Instr.{Instr}
 use Rattle.je_instr.specs.declared.instr.Instr.TheVariants as instr
 use Rattle.je_consts.specs.declared.constant.MemberTag.TheVariants.{Field, Method, InterfaceMethod}
-use Rattle.je_machine.specs.Content.{Content, Class, Str, Member, NameAndType, MethodHandle, MethodType, InvokeDynamic}
-use Rattle.je_instr.specs.Content.{of_text, of_name_and_type, of_member, handle_of, content_of, content_at}
+use Rattle.je_machine.specs.Content.{Content, Class, Str, Member, NameAndType, MethodHandle}
+use Rattle.je_machine.specs.Content.{MethodType, InvokeDynamic}
+use Rattle.je_instr.specs.Content.{of_text, of_name_and_type, of_member, handle_of, content_of}
+use Rattle.je_instr.specs.Content.{content_at, Names}
 use Rattle.je_machine.specs.Operation.{Operation, Handler, Program}
-use Rattle.je_instr.specs.Code.{RawHandler, Code}
+use Rattle.je_desc.specs.Names.{IsClassName}
+use Rattle.je_instr.specs.declared.program.Decoded.{Decoded}
+use Rattle.je_instr.specs.declared.program.Handler as entries
+use Rattle.je_instr.specs.declared.program.RawHandler.{RawHandler}
 use Rattle.je_instr.specs.CodeProgram.{CodeProgram, Catches, IsHandlerOf}
-use Rattle.je_instr.specs.Allowed.{IsAllowed}
+use Rattle.je_instr.specs.Allowed.{IsClass, IsAllowed}
+use Rattle.je_instr.specs.Decoding.{Follow, IsEntry, Decodes}
 use Rattle.je_instr.specs.Resolves.{Becomes, Resolves}
+use Rattle.je_instr.proofs.ZipLemmas.{zip_each}
 
 -- what the first is, the second is too
 abbrev Stays : {A : Type 0} → Option A → Option A → Type 0
@@ -150,33 +159,71 @@ catches_still : (old new : List Place) → Keeps old new → (index : ℕ) (clas
 catches_still old new keeps index None h = h
 catches_still old new keeps index (Some name) h = (content_stays old new keeps index (Class name) h.0, h.1)
 
-handler_still : (old new : List Place) → Keeps old new → (instrs : List Instr) (raw : RawHandler) (h : Handler) → IsHandlerOf old instrs raw h → IsHandlerOf new instrs raw h
-handler_still old new keeps instrs raw h is = record {
+handler_still : (old new : List Place) → Keeps old new → (e : entries.Handler) (h : Handler)
+    → IsHandlerOf old e h → IsHandlerOf new e h
+handler_still old new keeps e h is = record {
   start = is.start;
   end = is.end;
   target = is.target;
-  some = is.some;
-  within = is.within;
-  target_within = is.target_within;
-  catches = catches_still old new keeps raw.catch_const h.catch_class is.catches;
+  catches = catches_still old new keeps e.catch_const h.catch_class is.catches;
 }
 
-handlers_still : (old new : List Place) → Keeps old new → (instrs : List Instr) (raws : List RawHandler) (hs : List Handler) → AllZip (IsHandlerOf old instrs) raws hs → AllZip (IsHandlerOf new instrs) raws hs
-handlers_still old new keeps instrs [] [] is = tt
-handlers_still old new keeps instrs [] (h ∷ hs) is = absurd is
-handlers_still old new keeps instrs (raw ∷ raws) [] is = absurd is
-handlers_still old new keeps instrs (raw ∷ raws) (h ∷ hs) is =
-    (handler_still old new keeps instrs raw h is.0, handlers_still old new keeps instrs raws hs is.1)
+-- ---- what is decoded
 
-pub program_still : (old new : List Place) → Keeps old new → (is_static : Bool) (text : List ℕ) (code : Code) (p : Program) → CodeProgram old is_static text code p → CodeProgram new is_static text code p
-program_still old new keeps is_static text code p is = record {
-  types = is.types;
-  descriptor = is.descriptor;
-  parameters = is.parameters;
-  instrs = is.instrs;
-  spelled = is.spelled;
-  fits = is.fits;
-  resolved = all_resolve_still old new keeps is.instrs p.operations is.resolved;
-  targets = is.targets;
-  handlers = handlers_still old new keeps is.instrs code.handlers p.handlers is.handlers;
-}
+module _ (old new : List Place) (keeps : Keeps old new) where
+  follow_still : (code : List ℕ) (at : ℕ) (is : List Instr) (os : List ℕ) (end : ℕ)
+      → Follow old code at is os end → Follow new code at is os end
+  follow_still code at [] [] end h = h
+  follow_still code at (i ∷ is) (o ∷ os) end h = (
+    h.0,
+    h.1,
+    record { form = h.2.form; allowed = allowed_still old new keeps i h.2.allowed },
+    follow_still code h.1 is os end h.3,
+  )
+  follow_still code at [] (o ∷ os) end h = absurd h
+  follow_still code at (i ∷ is) [] end h = absurd h
+
+  class_still : (index : ℕ) → (index ≡ 0) ⊎ Names old index (IsClass IsClassName)
+      → (index ≡ 0) ⊎ Names new index (IsClass IsClassName)
+  class_still index (inl all) = inl all
+  class_still index (inr (content, here, is)) =
+      inr (content, content_stays old new keeps index content here, is)
+
+  entry_still : (starts : List ℕ) (size : ℕ) (raw : RawHandler) (e : entries.Handler)
+      → IsEntry old starts size raw e → IsEntry new starts size raw e
+  entry_still starts size raw e is = record {
+    start = is.start;
+    end = is.end;
+    target = is.target;
+    some = is.some;
+    catch_const = is.catch_const;
+    class = class_still raw.catch_const is.class;
+  }
+
+  pub decodes_still : (code : List ℕ) (table : List RawHandler) (d : Decoded)
+      → Decodes old code table d → Decodes new code table d
+  decodes_still code table d is = record {
+    located = is.located;
+    starts = is.starts;
+    follow = follow_still code 0 is.located is.starts (length code) is.follow;
+    offsets = is.offsets;
+    instrs = is.instrs;
+    handlers =
+        zip_each (IsEntry old is.starts (length code)) (IsEntry new is.starts (length code))
+        (entry_still is.starts (length code)) table d.program.handlers is.handlers;
+  }
+
+  pub program_still : (is_static : Bool) (text code : List ℕ) (table : List RawHandler)
+      (p : Program) → CodeProgram old is_static text code table p
+      → CodeProgram new is_static text code table p
+  program_still is_static text code table p is = record {
+    types = is.types;
+    descriptor = is.descriptor;
+    parameters = is.parameters;
+    decoded = is.decoded;
+    decodes = decodes_still code table is.decoded is.decodes;
+    resolved = all_resolve_still old new keeps is.decoded.program.instrs p.operations is.resolved;
+    handlers =
+        zip_each (IsHandlerOf old) (IsHandlerOf new) (handler_still old new keeps)
+        is.decoded.program.handlers p.handlers is.handlers;
+  }

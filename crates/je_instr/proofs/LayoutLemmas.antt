@@ -1,9 +1,11 @@
 -- Sizes and offsets of instructions in their shortest forms.
-use Rattle.std.proofs.Common.{◌≡◌, ℕ, ◌+◌, ◌<◌, ◌≤◌, Bool, true, false, cond, min, ℤ, List, [], ◌∷◌, length, sym, ap, ◌∙◌, arith, inl, inr}
+use Rattle.std.proofs.Common.{◌≡◌, ℕ, ◌+◌, ◌<◌, ◌≤◌, Bool, true, false, cond, min, ℤ, List, [], ◌∷◌}
+use Rattle.std.proofs.Common.{length, sym, ap, ◌∙◌, arith, inl, inr}
 use Rattle.std.proofs.lemmas.Bool.{cases_lt}
 use Rattle.je_instr.specs.declared.instr.Instr.{Instr}
 use Rattle.je_instr.specs.declared.instr.Instr.TheVariants as instr
-use Rattle.je_instr.specs.Shortest.{push_size, ldc_size, local_size, iinc_size, short_size, short_end}
+use Rattle.je_instr.specs.Shortest.{push_size, ldc_size, local_size, iinc_size, short_size}
+use Rattle.je_instr.specs.Shortest.{short_end}
 
 either : (b : Bool) (m n : ℕ) → 0 < m → 0 < n → 0 < cond b m n
 either true m n hm hn = hm

@@ -1,7 +1,3 @@
-pub mod SpellingLemmas
-pub mod HeadLemmas
-pub mod TableLemmas
-pub mod AttributeLemmas
 pub mod DescriptorLemmas
 pub mod OperationLemmas
 pub mod ContentLemmas
@@ -13,6 +9,8 @@ pub mod OperandLemmas
 pub mod SampleLemmas
 pub mod FormLemmas
 pub mod EndLemmas
+pub mod TakeLemmas
+pub mod ExampleLemmas
 pub mod FollowLemmas
 pub mod ZipLemmas
 pub mod PlaceLemmas
@@ -23,6 +21,7 @@ pub mod DecodeLemmas
 pub mod LayoutLemmas
 pub mod SizeLemmas
 pub mod HoldLemmas
+pub mod OpcodeFormLemmas
 pub mod ShortLemmas
 pub mod SwitchLemmas
 pub mod AssembleLemmas

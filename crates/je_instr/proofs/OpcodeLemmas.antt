@@ -1,5 +1,6 @@
 -- What the instructions are that are read so far.
-use Rattle.std.proofs.Common.{◌≡◌, ℕ, List, [], Some, None, refl, sym, ap, subst, ◌∙◌, ◌↔◌, inl, arith}
+use Rattle.std.proofs.Common.{◌≡◌, ℕ, List, [], Some, None, refl, sym, ap, subst, ◌∙◌, ◌↔◌, inl}
+use Rattle.std.proofs.Common.{arith}
 use Rattle.std.specs.Prelude.{codes}
 use Rattle.je_consts.specs.declared.place.Place.{Place}
 use Rattle.je_desc.specs.FieldType.{Object}

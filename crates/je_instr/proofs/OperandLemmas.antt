@@ -1,12 +1,15 @@
 -- What instructions with operands are.
-use Rattle.std.proofs.Common.{◌≡◌, ◌≢◌, ℕ, ◌+◌, ◌≤◌, ℤ, pos, negsuc, Bool, true, false, cond, eqb, IsSome, option_map, rules, List, [], ◌∷◌, ◌++◌, length, Option, Some, None, refl, sym, ap, subst, ◌∙◌, ◌↔◌, arith, length-append}
+use Rattle.std.proofs.Common.{◌≡◌, ◌≢◌, ℕ, ◌+◌, ◌≤◌, ℤ, pos, negsuc, Bool, true, false, cond, eqb}
+use Rattle.std.proofs.Common.{IsSome, option_map, rules, List, [], ◌∷◌, ◌++◌, length, Option, Some}
+use Rattle.std.proofs.Common.{None, refl, sym, ap, subst, ◌∙◌, ◌↔◌, arith, length-append}
 use Rattle.std.specs.Prelude.{codes}
 use Rattle.std.proofs.lemmas.Bool.{eqb-true}
 use Rattle.je_consts.specs.declared.place.Place.{Place}
 use Rattle.je_desc.specs.Descriptor.{MethodTypes, SpellsField, SpellsMethod, units_of_params}
 use Rattle.je_desc.specs.FieldType.{FieldType, Object, Array, dimensions}
 use Rattle.je_desc.specs.Names.{IsClassName}
-use Rattle.je_machine.specs.Action.{Field, GetField, Virtual, Special, Static, Interface, Sort, Invoke, NewArray}
+use Rattle.je_machine.specs.Action.{Field, GetField, Virtual, Special, Static, Interface, Sort}
+use Rattle.je_machine.specs.Action.{Invoke, NewArray}
 use Rattle.je_machine.specs.Content.{Content}
 use Rattle.je_consts.specs.declared.constant.MemberTag.{MemberTag}
 use Rattle.je_consts.specs.declared.constant.MemberTag.TheVariants as tags
@@ -15,7 +18,9 @@ use Rattle.je_machine.specs.Operation.{Act, Operation, Do, Push, Switch}
 use Rattle.je_machine.specs.Value.{Value, Int, Long, Flt, Dbl, Const}
 use Rattle.je_instr.specs.declared.instr.Instr.{Instr}
 use Rattle.je_instr.specs.declared.instr.Instr.TheVariants as instr
-use Rattle.je_instr.specs.Allowed.{IsPlainName, IsField, IsMadeOf, HasDimensions, IsClass, AreKeys, AllowsLdc, AllowsLdc2, AllowsCall, AllowsCounted, Calls, IsAllowed}
+use Rattle.je_instr.specs.Allowed.{IsPlainName, IsField, IsMadeOf, HasDimensions, IsClass, AreKeys}
+use Rattle.je_instr.specs.Allowed.{AllowsLdc, AllowsLdc2, AllowsCall, AllowsCounted, Calls}
+use Rattle.je_instr.specs.Allowed.{IsAllowed}
 use Rattle.je_instr.specs.Content.{content_at, Names}
 use Rattle.je_instr.specs.Opcodes.{beside, field_actions, sorts}
 use Rattle.je_instr.specs.Resolves.{loaded, loaded2, CallOperation, OfType, Resolves}

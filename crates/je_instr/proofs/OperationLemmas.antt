@@ -1,21 +1,28 @@
 -- Each instruction of allowed operands is one operation.
-use Rattle.std.proofs.Common.{◌≡◌, ℕ, List, [], ◌∷◌, Option, Some, None, refl, sym, ap, subst, ◌∙◌, arith}
+use Rattle.std.proofs.Common.{◌≡◌, ℕ, List, [], ◌∷◌, Option, Some, None, refl, sym, ap, subst, ◌∙◌}
+use Rattle.std.proofs.Common.{arith}
 use Rattle.std.specs.Prelude.{IsSome, option_map}
 use Rattle.std.specs.List.{AllByRecursion, AllZip}
 use Rattle.je_consts.specs.declared.place.Place.{Place}
 use Rattle.je_desc.specs.FieldType.{FieldType, Base, Object, Array, descriptor}
 use Rattle.je_desc.specs.Descriptor.{MethodTypes, SpellsMethod}
 use Rattle.je_desc.specs.Names.{IsClassName}
-use Rattle.je_machine.specs.Content.{Content, Integer, Float, LongInteger, Double, Class, Str, Member, MethodHandle, MethodType, InvokeDynamic}
+use Rattle.je_machine.specs.Content.{Content, Integer, Float, LongInteger, Double, Class, Str}
+use Rattle.je_machine.specs.Content.{Member, MethodHandle, MethodType, InvokeDynamic}
 use Rattle.je_consts.specs.declared.constant.MemberTag.TheVariants as tags
-use Rattle.je_machine.specs.Action.{Field, Action, Sort, Interface, Dynamic, Invoke, New, NewArray, CheckCast, InstanceOf}
+use Rattle.je_machine.specs.Action.{Field, Action, Sort, Interface, Dynamic, Invoke, New, NewArray}
+use Rattle.je_machine.specs.Action.{CheckCast, InstanceOf}
 use Rattle.je_machine.specs.Operation.{Operation, Act, Do, Branch}
 use Rattle.je_instr.specs.declared.instr.Instr.{Instr}
 use Rattle.je_instr.specs.declared.instr.Instr.TheVariants as instr
 use Rattle.je_instr.specs.Content.{content_at, Names}
-use Rattle.je_instr.specs.Opcodes.{beside, simple_operation, local_operations, conditions, field_actions, sorts, array_types}
-use Rattle.je_instr.specs.Allowed.{NamesType, IsClassText, IsClass, IsMadeOf, HasDimensions, Calls, AllowsField, AllowsCall, AllowsCounted, AllowsLdc, AllowsLdc2, IsAllowed}
-use Rattle.je_instr.specs.Resolves.{loaded, loaded2, pushed, IsFieldOf, FieldOperation, CallOperation, OfClass, OfType, Becomes, Resolves}
+use Rattle.je_instr.specs.Opcodes.{beside, simple_operation, local_operations, conditions}
+use Rattle.je_instr.specs.Opcodes.{field_actions, sorts, array_types}
+use Rattle.je_instr.specs.Allowed.{NamesType, IsClassText, IsClass, IsMadeOf, HasDimensions, Calls}
+use Rattle.je_instr.specs.Allowed.{AllowsField, AllowsCall, AllowsCounted, AllowsLdc, AllowsLdc2}
+use Rattle.je_instr.specs.Allowed.{IsAllowed}
+use Rattle.je_instr.specs.Resolves.{loaded, loaded2, pushed, IsFieldOf, FieldOperation}
+use Rattle.je_instr.specs.Resolves.{CallOperation, OfClass, OfType, Becomes, Resolves}
 use Rattle.je_instr.proofs.DescriptorLemmas.{one_type, one_method}
 
 pub some_is : {A : Type 0} (x y : A) → Some x ≡ Some y → x ≡ y

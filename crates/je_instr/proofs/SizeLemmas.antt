@@ -1,5 +1,6 @@
 -- A program has one fault of size at most, and none where its code is short and its jumps are near.
-use Rattle.std.proofs.Common.{◌≡◌, ℕ, zero, suc, ◌+◌, ◌-◌, ◌^◌, ◌<◌, ◌≤◌, List, [], ◌∷◌, length, get_or, refl, sym, ap, subst, ◌∙◌, inl, inr, arith}
+use Rattle.std.proofs.Common.{◌≡◌, ℕ, zero, suc, ◌+◌, ◌-◌, ◌^◌, ◌<◌, ◌≤◌, List, [], ◌∷◌, length}
+use Rattle.std.proofs.Common.{get_or, refl, sym, ap, subst, ◌∙◌, inl, inr, arith}
 use Rattle.je_instr.specs.declared.assembled.SizeFault.{SizeFault}
 use Rattle.je_instr.specs.declared.assembled.SizeFault.TheVariants.{JumpTooFar}
 use Rattle.je_instr.specs.declared.instr.Instr.{Instr}
@@ -7,7 +8,8 @@ use Rattle.je_instr.specs.declared.program.Program.{Program}
 use Rattle.std.specs.List.{AllByRecursion}
 use Rattle.je_instr.specs.declared.program.Handler.{Handler}
 use Rattle.je_instr.specs.CodeProgram.{HasTargets}
-use Rattle.je_instr.specs.Assembling.{IsProgram, IsWithinProgram, AreNear, IsFirstFar, IsSizeFault, too_long, too_far}
+use Rattle.je_instr.specs.Assembling.{IsProgram, IsWithinProgram, AreNear, IsFirstFar, IsSizeFault}
+use Rattle.je_instr.specs.Assembling.{too_long, too_far}
 use Rattle.je_instr.specs.Offsets.{AreShort}
 use Rattle.je_instr.specs.Shortest.{short_size, short_end, short_offsets}
 use Rattle.je_instr.proofs.LayoutLemmas.{end_from}

@@ -1,5 +1,7 @@
 -- A switch in its short form is read as that switch.
-use Rattle.std.proofs.Common.{◌≡◌, ℕ, suc, ◌+◌, ◌*◌, ◌-◌, ◌%◌, ◌^◌, ◌<◌, ◌≤◌, Bool, true, false, cond, nat_lt, nat_le, List, [], ◌∷◌, ◌++◌, length, map, get_or, Err, ℤ, pos, ◌+ℤ◌, ◌-ℤ◌, ◌<ℤ◌, FitsSigned, refl, ap, subst, ◌∙◌, arith}
+use Rattle.std.proofs.Common.{◌≡◌, ℕ, suc, ◌+◌, ◌*◌, ◌-◌, ◌%◌, ◌^◌, ◌<◌, ◌≤◌, Bool, true, false}
+use Rattle.std.proofs.Common.{cond, nat_lt, nat_le, List, [], ◌∷◌, ◌++◌, length, map, get_or, Err}
+use Rattle.std.proofs.Common.{ℤ, pos, ◌+ℤ◌, ◌-ℤ◌, ◌<ℤ◌, FitsSigned, refl, ap, subst, ◌∙◌, arith}
 use Rattle.std.specs.Prelude.{int_lt, unsigned_abs}
 use Rattle.std.specs.List.{AllByRecursion, flat_map}
 use Rattle.std.specs.Int.{w32}
@@ -12,11 +14,15 @@ use Rattle.je_instr.specs.declared.instr.Case.{Case}
 use Rattle.je_instr.specs.declared.instr.Instr.TheVariants.{TableSwitch, LookupSwitch}
 use Rattle.je_instr.specs.declared.opcodes.TheConstants as op
 use Rattle.je_instr.specs.Allowed.{AreKeys}
-use Rattle.je_instr.specs.Forms.{Read, u4_at, s4_at, far, aligned, targets_at, case_at, cases_at, count_between, table_form, lookup_form, form_at}
+use Rattle.je_instr.specs.Forms.{Read, u4_at, s4_at, far, aligned, targets_at, case_at, cases_at}
+use Rattle.je_instr.specs.Forms.{count_between, table_form, lookup_form, form_at}
 use Rattle.je_instr.specs.Offsets.{AreShort}
-use Rattle.je_instr.specs.Shortest.{s4, padding, target_bytes, case_bytes, last_key, table_bytes, lookup_bytes}
-use Rattle.je_instr.proofs.HoldLemmas.{Holds, holds_front, holds_back, holds_tail, byte_there, four_there, signed_4_there, far_there, behind_padding}
-use Rattle.je_instr.proofs.ShortLemmas.{form_by, ok, other, not_less, form_is, moved}
+use Rattle.je_instr.specs.Shortest.{s4, padding, target_bytes, case_bytes, last_key, table_bytes}
+use Rattle.je_instr.specs.Shortest.{lookup_bytes}
+use Rattle.je_instr.proofs.HoldLemmas.{Holds, holds_front, holds_back, holds_tail, byte_there}
+use Rattle.je_instr.proofs.HoldLemmas.{four_there, signed_4_there, far_there, behind_padding}
+use Rattle.je_instr.proofs.OpcodeFormLemmas.{form_by, ok, other, not_less, form_is}
+use Rattle.je_instr.proofs.ShortLemmas.{moved}
 
 -- ---- keys
 

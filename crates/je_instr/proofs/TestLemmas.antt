@@ -1,7 +1,9 @@
 -- Which opcodes stand in a table: each one below 256 is tried.
-use Rattle.std.proofs.Common.{◌≡◌, ℕ, ◌<◌, ◌≤◌, Bool, true, false, ◌&&◌, Option, Some, is_some, refl, sym, ap, subst, ◌∙◌, ◌↔◌, arith}
+use Rattle.std.proofs.Common.{◌≡◌, ℕ, ◌<◌, ◌≤◌, Bool, true, false, ◌&&◌, Option, Some, is_some}
+use Rattle.std.proofs.Common.{refl, sym, ap, subst, ◌∙◌, ◌↔◌, arith}
 use Rattle.std.specs.Prelude.{IsTrue, IsSome}
-use Rattle.je_instr.specs.Opcodes.{beside, simple_operation, local_operations, conditions, field_actions, sorts, array_types}
+use Rattle.je_instr.specs.Opcodes.{beside, simple_operation, local_operations, conditions}
+use Rattle.je_instr.specs.Opcodes.{field_actions, sorts, array_types}
 use Rattle.std.specs.Prelude.{nat_le}
 use Rattle.std.proofs.lemmas.Bool.{leb-true}
 use Rattle.je_machine.specs.Action.{Sort, Virtual, Special, Static}

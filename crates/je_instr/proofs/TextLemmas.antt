@@ -1,10 +1,14 @@
 -- What texts of classes and of methods begin and end with.
-use Rattle.std.proofs.Common.{◌≡◌, ℕ, suc, ◌+◌, ◌-◌, ◌<◌, ◌≤◌, Bool, true, false, List, [], ◌∷◌, ◌++◌, length, get_or, Option, Some, None, refl, sym, ap, subst, ◌∙◌, ◌⊎◌, inl, inr, arith, length-append}
+use Rattle.std.proofs.Common.{◌≡◌, ℕ, suc, ◌+◌, ◌-◌, ◌<◌, ◌≤◌, Bool, true, false, List, [], ◌∷◌}
+use Rattle.std.proofs.Common.{◌++◌, length, get_or, Option, Some, None, refl, sym, ap, subst, ◌∙◌}
+use Rattle.std.proofs.Common.{◌⊎◌, inl, inr, arith, length-append}
 use Rattle.std.specs.List.{flat_map}
 use Rattle.std.proofs.lemmas.List.{get_or-append-add}
 use Rattle.je_desc.specs.Names.{IsClassName}
-use Rattle.je_desc.specs.FieldType.{BaseType, Byte, Char, Double, Float, Int, Long, Short, Boolean, FieldType, Base, Object, Array, dimensions, letter, descriptor}
-use Rattle.je_desc.specs.Descriptor.{MethodTypes, SpellsField, FieldDescriptor, SpellsMethod, return_descriptor, method_descriptor}
+use Rattle.je_desc.specs.FieldType.{BaseType, Byte, Char, Double, Float, Int, Long, Short, Boolean}
+use Rattle.je_desc.specs.FieldType.{FieldType, Base, Object, Array, dimensions, letter, descriptor}
+use Rattle.je_desc.specs.Descriptor.{MethodTypes, SpellsField, FieldDescriptor, SpellsMethod}
+use Rattle.je_desc.specs.Descriptor.{return_descriptor, method_descriptor}
 use Rattle.je_instr.specs.Allowed.{IsClassText, IsMadeOf, HasDimensions}
 use Rattle.je_instr.specs.OpcodeTests.{brackets, IsArrayText}
 

@@ -1,5 +1,6 @@
 -- Code and an exception table are a program or have a first fault: it cannot be that they do neither.
-use Rattle.std.proofs.Common.{◌≡◌, ℕ, zero, suc, ◌+◌, ◌<◌, ◌≤◌, List, [], ◌∷◌, ◌++◌, length, Ok, Err, refl, subst, arith, ◌⊎◌, inl, inr}
+use Rattle.std.proofs.Common.{◌≡◌, ℕ, zero, suc, ◌+◌, ◌<◌, ◌≤◌, List, [], ◌∷◌, ◌++◌, length, Ok}
+use Rattle.std.proofs.Common.{Err, refl, subst, arith, ◌⊎◌, inl, inr}
 use Rattle.std.specs.List.{AllZip}
 use Rattle.std.proofs.lemmas.Bool.{cases_lt}
 use Rattle.je_consts.specs.declared.place.Place.{Place}
@@ -11,7 +12,8 @@ use Rattle.je_instr.specs.declared.program.Handler.{Handler}
 use Rattle.je_instr.specs.declared.program.RawHandler.{RawHandler}
 use Rattle.je_instr.specs.Allowed.{IsAllowed}
 use Rattle.je_instr.specs.Forms.{Read, form_at}
-use Rattle.je_instr.specs.Decoding.{Follow, IsStop, Leads, LeadsNowhere, IsFirstNowhere, IsEntry, IsFirstNoEntry, Decodes, FirstFault, stops, nowhere, no_entry}
+use Rattle.je_instr.specs.Decoding.{Follow, IsStop, Leads, LeadsNowhere, IsFirstNowhere, IsEntry}
+use Rattle.je_instr.specs.Decoding.{IsFirstNoEntry, Decodes, FirstFault, stops, nowhere, no_entry}
 use Rattle.je_instr.proofs.EndLemmas.{form_within}
 use Rattle.je_instr.proofs.FollowLemmas.{follow_more, as_many}
 use Rattle.je_instr.proofs.DecodeLemmas.{decoded_is, decoded_made}

@@ -40,3 +40,11 @@ module _ {A B : Type 0} (R : A → B → Type 0) where
   zip_once (x ∷ xs) [] zs one h k = absurd h
   zip_once [] ys (z ∷ zs) one h k = absurd k
   zip_once (x ∷ xs) ys [] one h k = absurd k
+
+-- what goes with each item for one reason goes with it for another
+pub zip_each : {A B : Type 0} (R S : A → B → Type 0) → ((x : A) (y : B) → R x y → S x y)
+    → (xs : List A) (ys : List B) → AllZip R xs ys → AllZip S xs ys
+zip_each R S each [] [] h = tt
+zip_each R S each (x ∷ xs) (y ∷ ys) h = (each x y h.0, zip_each R S each xs ys h.1)
+zip_each R S each [] (y ∷ ys) h = absurd h
+zip_each R S each (x ∷ xs) [] h = absurd h

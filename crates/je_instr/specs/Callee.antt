@@ -5,8 +5,6 @@ use Rattle.je_consts.specs.declared.place.Place.{Place}
 use Rattle.je_desc.specs.Names.{IsClassName}
 use Rattle.je_consts.specs.declared.constant.MemberTag.TheVariants.{Method}
 use Rattle.je_machine.specs.Content.{Member}
-use Rattle.je_instr.specs.declared.instr.Instr.{Instr}
-use Rattle.je_instr.specs.declared.instr.Instr.TheVariants.{Invoke}
 use Rattle.je_instr.specs.Content.{content_at}
 
 -- A method whose class is no array, that is neither a constructor nor a class initialiser (JVMS
@@ -23,8 +21,3 @@ IsCallee consts index =
     (class : List ℕ) × (name : List ℕ) × (descriptor : List ℕ)
     × (content_at consts index ≡ Some (Member Method class name descriptor))
     × IsCallable class name descriptor
-
--- an instruction that names no constant, or a method that may be called so far
-abbrev pub CallsSoFar : List Place → Instr → Type 0
-CallsSoFar consts (Invoke opcode index) = IsCallee consts index
-CallsSoFar consts _ = Unit {0}

@@ -3,13 +3,9 @@ pub mod Opcodes
 pub mod Rows
 pub mod Allowed
 pub mod Resolves
-pub mod Spelling
-pub mod Code
 pub mod CodeProgram
 pub mod Callee
 pub mod Methods
-pub mod Plain
-pub mod Reading
 pub mod Sample
 pub mod Forms
 pub mod FormReading

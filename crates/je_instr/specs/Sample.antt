@@ -1,5 +1,5 @@
--- A method of four instructions, by which a law shows what a run is.
-use Rattle.std.specs.Prelude.{◌≡◌, ℕ, List, [], ◌∷◌, Option, Some, None}
+-- Methods of a few instructions, by which laws show what programs and runs are.
+use Rattle.std.specs.Prelude.{◌≡◌, ℕ, pos, List, [], ◌∷◌, Option, Some, None}
 use Rattle.std.specs.List.{AllZip}
 use Rattle.je_consts.specs.declared.place.Place.{Place}
 use Rattle.je_consts.specs.declared.constant.MemberTag.TheVariants.{Method}
@@ -7,17 +7,46 @@ use Rattle.je_machine.specs.Content.{Content, Member}
 use Rattle.je_machine.specs.Heap.{Heap}
 use Rattle.je_machine.specs.Classes.{Classes}
 use Rattle.je_machine.specs.Action.{Action, Static, Invoke}
-use Rattle.je_machine.specs.Operation.{Program}
+use Rattle.je_machine.specs.Operation.{Push, Do, Return, Program}
 use Rattle.je_machine.specs.Outside.{Answer, Event}
 use Rattle.je_machine.specs.Step.{Ending}
 use Rattle.je_machine.specs.Machine.{run_of}
+use Rattle.je_machine.specs.Value.{Int}
 use Rattle.je_machine.specs.View.{view_of}
 use Rattle.je_instr.specs.declared.instr.Instr.{Instr}
 use Rattle.je_instr.specs.declared.instr.Instr.TheVariants as instr
 use Rattle.je_instr.specs.declared.opcodes.TheConstants as op
+use Rattle.je_instr.specs.declared.program.Decoded.{Decoded}
+use Rattle.je_instr.specs.declared.program.Handler.{Handler}
 use Rattle.je_instr.specs.Callee.{IsCallable}
 use Rattle.je_instr.specs.Content.{content_at}
 use Rattle.je_instr.specs.Resolves.{Resolves}
+
+-- ---- two instructions
+
+-- sipush of 256, which has three bytes, and return
+abbrev pub push_and_return : List ℕ
+push_and_return = op.SIPUSH ∷ 1 ∷ 0 ∷ op.RETURN ∷ []
+
+-- what they are decoded to, with this handler
+abbrev pub pushed_with : Handler → Decoded
+pushed_with handler = record {
+  program = record {
+    instrs = instr.IntPush (pos 256) ∷ instr.Simple op.RETURN ∷ [];
+    handlers = handler ∷ [];
+  };
+  offsets = 0 ∷ 3 ∷ 4 ∷ [];
+}
+
+-- their program in a static method without parameters
+abbrev pub push_program : Program
+push_program = record {
+  parameters = [];
+  operations = Do (Push (Int (pos 256))) ∷ Return None ∷ [];
+  handlers = [];
+}
+
+-- ---- four instructions
 
 -- calls a method, does nothing, calls another and returns
 abbrev pub two_calls : ℕ → ℕ → List Instr

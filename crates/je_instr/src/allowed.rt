@@ -20,7 +20,8 @@ use je_consts::Consts;
 
 /// Whether an instruction of this opcode may call the method that the constant is.
 fn is_invoke(consts: &Consts, opcode: u8, index: u16) -> bool
-    ensures { IsTrue result ↔ ((sort : Sort) × (beside sorts opcode ≡ Some sort) × Names consts.now index (AllowsCall sort)) }
+    ensures { IsTrue result ↔ ((sort : Sort) × (beside sorts opcode ≡ Some sort)
+        × Names consts.now index (AllowsCall sort)) }
 {
     if opcode == op::INVOKEVIRTUAL {
         return is_call(Call::Virtual, consts, index);

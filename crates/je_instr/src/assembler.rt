@@ -1,10 +1,12 @@
 //! From programs to bytes (JVMS 4.7.3 and 6.5).
 
-ghost use Rattle.std.specs.Prelude.{◌≡◌, ◌-◌, ◌<◌, ◌⊎◌, List, length, map, IfOk, IfErr, MatchResult};
+ghost use Rattle.std.specs.Prelude.{◌≡◌, ◌-◌, ◌<◌, ◌⊎◌, List, length, map, IfOk, IfErr};
+ghost use Rattle.std.specs.Prelude.{MatchResult};
 ghost use Rattle.std.specs.List.{AllByRecursion};
 ghost use Rattle.je_consts.specs.declared.place.Place.{Place};
 ghost use Rattle.je_instr.specs.declared.assembled.SizeFault.{SizeFault};
-ghost use Rattle.je_instr.specs.Assembling.{IsProgram, IsWithinProgram, AllowsProgram, raw_handler, IsAssembled, IsSizeFault, placed};
+ghost use Rattle.je_instr.specs.Assembling.{IsProgram, IsWithinProgram, AllowsProgram, raw_handler};
+ghost use Rattle.je_instr.specs.Assembling.{IsAssembled, IsSizeFault, placed};
 ghost use Rattle.je_instr.specs.Decoding.{Decodes};
 ghost use Rattle.je_instr.specs.Offsets.{AreShort};
 

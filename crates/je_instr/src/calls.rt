@@ -4,11 +4,16 @@ ghost use Rattle.std.specs.Prelude.{◌≡◌, ◌≢◌, ℕ, ◌+◌, ◌↔�
 ghost use Rattle.std.specs.Option.{option_map, option_copied};
 ghost use Rattle.je_desc.specs.FieldType.{FieldType};
 ghost use Rattle.je_desc.specs.Names.{IsClassName};
-ghost use Rattle.je_desc.specs.Descriptor.{MethodTypes, SpellsMethod, FieldDescriptor, units_of_params};
+ghost use Rattle.je_desc.specs.Descriptor.{MethodTypes, SpellsMethod, FieldDescriptor};
+ghost use Rattle.je_desc.specs.Descriptor.{units_of_params};
 ghost use Rattle.je_instr.specs.Content.{content_at, Names};
-ghost use Rattle.je_instr.specs.Allowed.{IsClass, IsClassText, IsMadeOf, HasDimensions, IsPlainName, IsField, AllowsField, TakesTag, IsCalledName, IsMethod, IsDynamic, AllowsCall, AllowsCounted, AllowsLdc, AllowsLdc2};
+ghost use Rattle.je_instr.specs.Allowed.{IsClass, IsClassText, IsMadeOf, HasDimensions};
+ghost use Rattle.je_instr.specs.Allowed.{IsPlainName, IsField, AllowsField, TakesTag, IsCalledName};
+ghost use Rattle.je_instr.specs.Allowed.{IsMethod, IsDynamic, AllowsCall, AllowsCounted, AllowsLdc};
+ghost use Rattle.je_instr.specs.Allowed.{AllowsLdc2};
 ghost use Rattle.je_machine.specs.Action.{Interface, Dynamic};
-ghost use Rattle.je_instr.specs.Views.{of_class, of_any, of_dynamic, is_loaded, is_wide, sort_of_call, CallsWith};
+ghost use Rattle.je_instr.specs.Views.{of_class, of_any, of_dynamic, is_loaded, is_wide};
+ghost use Rattle.je_instr.specs.Views.{sort_of_call, CallsWith};
 
 use crate::texts::{
     CONSTRUCTOR, INITIALISER, has_dimensions, is_class_text, is_made_of, is_plain_name,
@@ -58,7 +63,8 @@ fn any_member(consts: &Consts, index: u16) -> Option<(MemberTag, &Text, &Text, &
 
 /// The name and the descriptor of a dynamic call.
 fn dynamic(consts: &Consts, index: u16) -> Option<(&Text, &Text)>
-    ensures { option_map (λ m. (m.0.now, m.1.now)) result ≡ of_dynamic (content_at consts.now index) }
+    ensures { option_map (λ m. (m.0.now, m.1.now)) result
+        ≡ of_dynamic (content_at consts.now index) }
 {
     let Some(Const::InvokeDynamic(_, member)) = consts.get(index) else {
         return None;
@@ -121,7 +127,8 @@ pub(crate) fn is_object_class(consts: &Consts, index: u16) -> bool
 
 /// Whether the constant is a class of which arrays can be made.
 pub(crate) fn is_made(consts: &Consts, index: u16) -> bool
-    ensures { IsTrue result ↔ Names consts.now index (IsClass (λ text. (t : FieldType) × IsMadeOf text t)) }
+    ensures { IsTrue result
+        ↔ Names consts.now index (IsClass (λ text. (t : FieldType) × IsMadeOf text t)) }
 {
     match class_text(consts, index) {
         Some(text) => is_made_of(text.bytes()),
@@ -131,7 +138,8 @@ pub(crate) fn is_made(consts: &Consts, index: u16) -> bool
 
 /// Whether the constant is an array of at least so many dimensions.
 pub(crate) fn is_sized(consts: &Consts, index: u16, count: u8) -> bool
-    ensures { IsTrue result ↔ Names consts.now index (IsClass (λ text. (t : FieldType) × HasDimensions count text t)) }
+    ensures { IsTrue result
+        ↔ Names consts.now index (IsClass (λ text. (t : FieldType) × HasDimensions count text t)) }
 {
     match class_text(consts, index) {
         Some(text) => has_dimensions(count, text.bytes()),
@@ -174,7 +182,8 @@ fn takes_tag(call: Call, tag: MemberTag) -> bool
 
 /// Whether a method of this name and descriptor may be called so.
 fn is_called_name(call: Call, name: &[u8], text: &[u8]) -> bool
-    ensures { (m : MethodTypes) → SpellsMethod text.now m → IsTrue result ↔ IsCalledName (sort_of_call call) name.now m }
+    ensures { (m : MethodTypes) → SpellsMethod text.now m
+        → IsTrue result ↔ IsCalledName (sort_of_call call) name.now m }
 {
     if name == INITIALISER {
         return false;
@@ -187,8 +196,11 @@ fn is_called_name(call: Call, name: &[u8], text: &[u8]) -> bool
 
 /// The units of the parameters of a method that may be called so.
 fn method_units(call: Call, tag: MemberTag, class: &[u8], name: &[u8], text: &[u8]) -> Option<u32>
-    ensures some { IfSome result (λ n. (m : MethodTypes) × IsMethod (sort_of_call call) tag class.now name.now text.now m × (n ≡ units_of_params m)) }
-    ensures none { IfNone result ((m : MethodTypes) → IsMethod (sort_of_call call) tag class.now name.now text.now m → ⊥) }
+    ensures some { IfSome result (λ n. (m : MethodTypes)
+        × IsMethod (sort_of_call call) tag class.now name.now text.now m
+        × (n ≡ units_of_params m)) }
+    ensures none { IfNone result ((m : MethodTypes)
+        → IsMethod (sort_of_call call) tag class.now name.now text.now m → ⊥) }
 {
     if !takes_tag(call, tag) || !is_class_text(class) {
         return None;

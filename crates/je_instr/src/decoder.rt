@@ -1,16 +1,19 @@
 //! From bytes and an exception table to a program (JVMS 4.7.3 and 6.5).
 
-ghost use Rattle.std.specs.Prelude.{◌≡◌, ℕ, ◌<◌, ◌^◌, ◌++◌, ◌⊎◌, List, length, IfOk, IfErr, MatchResult};
+ghost use Rattle.std.specs.Prelude.{◌≡◌, ℕ, ◌+◌, ◌<◌, ◌^◌, ◌++◌, ◌⊎◌, List, length, Ok};
+ghost use Rattle.std.specs.Prelude.{IfOk, IfErr, MatchResult};
 ghost use Rattle.je_consts.specs.declared.place.Place.{Place};
 ghost use Rattle.je_instr.specs.declared.fault.CodeFault.{CodeFault};
+ghost use Rattle.je_instr.specs.declared.instr.Instr.TheVariants as instr;
 ghost use Rattle.je_instr.specs.declared.program.Decoded.{Decoded};
 ghost use Rattle.je_instr.specs.declared.program.RawHandler.{RawHandler};
 ghost use Rattle.je_base.specs.Bytes.{u2, u4};
 ghost use Rattle.je_instr.specs.Decoding.{Decodes, FirstFault};
-ghost use Rattle.je_instr.specs.Forms.{u2_at, u4_at};
+ghost use Rattle.je_instr.specs.Forms.{u2_at, u4_at, form_at};
 
 use crate::entries::entries;
 use crate::fault::CodeFault;
+use crate::offset::Offset;
 use crate::program::{Decoded, Program, RawHandler};
 use crate::targets::{all_resolved, places_of};
 use crate::walk::walk;
@@ -38,8 +41,9 @@ fn decoded(
     let (located, mut starts) = walk(alloc, code, consts)?;
     let places = places_of(alloc, &starts, code.len())?;
     let instrs = all_resolved(alloc, &starts, &places, &located)?;
-    let handlers = entries(alloc, consts, &starts, &places, code.len() as u32, table)?;
-    starts.push(code.len() as u32)?;
+    let size = code.len() as u32;
+    let handlers = entries(alloc, consts, &starts, &places, Offset::new(size), table)?;
+    starts.push(size)?;
     Ok(Decoded {
         program: Program {
             instrs: Items::from_vec(instrs),
@@ -112,4 +116,13 @@ pub fn numbers_mean()
         → u2_at (front ++ (u2 n ++ rest)) (length front) ≡ n }
     ensures four { (front rest : List ℕ) (n : ℕ) → n < 2 ^ 32
         → u4_at (front ++ (u4 n ++ rest)) (length front) ≡ n }
+{}
+
+/// An instruction without operands takes one byte, and a call of a method by its class three (JVMS
+/// 6.5): they have one form alone.
+pub fn forms_take()
+    ensures simple { (code : List ℕ) (at opcode end : ℕ) →
+        form_at code at ≡ Ok (instr.Simple opcode, end) → end ≡ at + 1 }
+    ensures invoke { (code : List ℕ) (at opcode index end : ℕ) →
+        form_at code at ≡ Ok (instr.Invoke opcode index, end) → end ≡ at + 3 }
 {}

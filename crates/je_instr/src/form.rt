@@ -2,7 +2,10 @@
 
 ghost use Rattle.std.specs.Prelude.{◌≡◌, ◌+◌, ◌*◌, ◌<◌, ◌≤◌, ◌^◌, length, IfOk};
 ghost use Rattle.je_instr.specs.FormReading.{Gives};
-ghost use Rattle.je_instr.specs.Forms.{u1_at, u2_at, u4_at, s1_at, s2_at, s4_at, near, far, size_of, push_form, local_form, jump_form, member_form, fixed_form, wide_form, aligned, targets_at, case_at, cases_at, table_form, lookup_form, form_at};
+ghost use Rattle.je_instr.specs.Forms.{u1_at, u2_at, u4_at, s1_at, s2_at, s4_at, near, far};
+ghost use Rattle.je_instr.specs.Forms.{size_of, push_form, local_form, jump_form, member_form};
+ghost use Rattle.je_instr.specs.Forms.{fixed_form, wide_form, aligned, targets_at, case_at};
+ghost use Rattle.je_instr.specs.Forms.{cases_at, table_form, lookup_form, form_at};
 
 use crate::fault::CodeFault;
 use crate::instr::{Case, Instr};

@@ -7,42 +7,43 @@ ghost use Rattle.je_consts.specs.declared.constant.MemberTag.{MemberTag};
 ghost use Rattle.je_consts.specs.declared.place.Place.{Place};
 ghost use Rattle.je_consts.specs.Adding.{Keeps, NamesMember};
 ghost use Rattle.je_consts.specs.Pool.{const_at, class_at, text_at, NamesAndTypes, IsPool};
-ghost use Rattle.je_desc.specs.Descriptor.{MethodTypes};
+ghost use Rattle.je_desc.specs.Descriptor.{MethodTypes, SpellsMethod};
 ghost use Rattle.je_consts.specs.declared.constant.MemberTag.TheVariants.{Method};
-ghost use Rattle.je_machine.specs.Content.{Content, Class, Str, Member, NameAndType, MethodHandle, MethodType, InvokeDynamic};
+ghost use Rattle.je_machine.specs.Content.{Content, Class, Str, Member, NameAndType, MethodHandle};
+ghost use Rattle.je_machine.specs.Content.{MethodType, InvokeDynamic};
 ghost use Rattle.je_machine.specs.Action.{Static, Invoke};
 ghost use Rattle.je_machine.specs.Operation.{Nop, Act, Operation, Do, Return, Program};
 ghost use Rattle.je_instr.specs.declared.instr.Instr.{Instr};
 ghost use Rattle.je_instr.specs.declared.instr.Instr.TheVariants as instr;
 ghost use Rattle.je_instr.specs.declared.opcodes.TheConstants as op;
+ghost use Rattle.je_instr.specs.declared.program.Decoded.{Decoded};
+ghost use Rattle.je_instr.specs.declared.program.RawHandler.{RawHandler};
 ghost use Rattle.je_instr.specs.Content.{content_at};
-ghost use Rattle.je_instr.specs.Code.{Code, CodeBytes};
 ghost use Rattle.je_instr.specs.CodeProgram.{CodeProgram};
 ghost use Rattle.je_instr.specs.Allowed.{IsAllowed};
+ghost use Rattle.je_instr.specs.Decoding.{Decodes};
 ghost use Rattle.je_instr.specs.Callee.{IsCallable};
 ghost use Rattle.je_instr.specs.Resolves.{Resolves};
-ghost use Rattle.je_instr.specs.Spelling.{code_bytes, FitsInstr};
 
-use je_base::one_reading;
-
-/// Bytes are one program at most: one code, of one list of instructions, with one list of
-/// operations.
+/// Code and an exception table are one program at most, with one list of operations.
 pub fn one_program()
-    ensures code { (info : List ℕ) (c d : Code) →
-        CodeBytes info c → CodeBytes info d → c ≡ d }
-    ensures instrs { (is js : List Instr) →
-        AllByRecursion FitsInstr is → AllByRecursion FitsInstr js
-        → code_bytes is ≡ code_bytes js → is ≡ js }
     ensures operations { (consts : List Place) (is : List Instr) (a b : List Operation) →
         AllZip (Resolves consts) is a → AllZip (Resolves consts) is b → a ≡ b }
-    ensures program { (consts : List Place) (is_static : Bool) (text : List ℕ) (code : Code)
-        (p q : Program) →
-        CodeProgram consts is_static text code p → CodeProgram consts is_static text code q
-        → p ≡ q }
-{
-    // The law of the layer below that the proof stands on.
-    one_reading();
-}
+    ensures program { (consts : List Place) (is_static : Bool) (text code : List ℕ)
+        (table : List RawHandler) (p q : Program) →
+        CodeProgram consts is_static text code table p
+        → CodeProgram consts is_static text code table q → p ≡ q }
+{}
+
+/// Where code and an exception table are decoded, and the descriptor is one of a method, they are a
+/// program, whose instructions are those that were decoded.
+pub fn programs_exist()
+    ensures some { (consts : List Place) (is_static : Bool) (text code : List ℕ)
+        (table : List RawHandler) (types : MethodTypes) (decoded : Decoded) →
+        SpellsMethod text types → Decodes consts code table decoded
+        → (p : Program) × (c : CodeProgram consts is_static text code table p)
+        × (c.decoded ≡ decoded) }
+{}
 
 /// What the entries of a constant pool say, with what they name in place (JVMS 4.4).
 pub fn constants_mean()
@@ -86,9 +87,12 @@ pub fn contents_stay()
     ensures operations { (old new : List Place) → Keeps old new →
         (is : List Instr) (a : List Operation) →
         AllZip (Resolves old) is a → AllZip (Resolves new) is a }
+    ensures decodes { (old new : List Place) → Keeps old new →
+        (code : List ℕ) (table : List RawHandler) (d : Decoded) →
+        Decodes old code table d → Decodes new code table d }
     ensures program { (old new : List Place) → Keeps old new →
-        (is_static : Bool) (text : List ℕ) (code : Code) (p : Program) →
-        CodeProgram old is_static text code p → CodeProgram new is_static text code p }
+        (is_static : Bool) (text code : List ℕ) (table : List RawHandler) (p : Program) →
+        CodeProgram old is_static text code table p → CodeProgram new is_static text code table p }
 {}
 
 /// An instruction is an operation exactly where its operands are allowed, and then it is one.

@@ -1,9 +1,11 @@
 //! Where instructions stand in the code, each in its shortest form (JVMS 6.5).
 
 ghost use Rattle.std.specs.Prelude.{◌≡◌, ◌<◌, ◌≤◌, ◌+◌, ◌-◌, ◌^◌, min, IfOk};
-ghost use Rattle.je_instr.specs.Shortest.{push_size, ldc_size, local_size, iinc_size, short_size, short_end, short_offsets};
+ghost use Rattle.je_instr.specs.Shortest.{push_size, ldc_size, local_size, iinc_size, short_size};
+ghost use Rattle.je_instr.specs.Shortest.{short_end, short_offsets};
 
 use crate::instr::Instr;
+use crate::offset::Offset;
 use je_base::Memory;
 use std::alloc::Global;
 
@@ -56,7 +58,7 @@ fn iinc_size(slot: u16, by: i16) -> usize
 }
 
 /// How many bytes an instruction has at an offset.
-pub(crate) fn short_size(at: u32, instr: &Instr) -> usize
+pub(crate) fn short_size(at: Offset, instr: &Instr) -> usize
     ensures size { result ≡ short_size at instr.now }
     ensures bound { result ≤ 2 ^ 63 + 2 ^ 5 }
 {
@@ -66,10 +68,12 @@ pub(crate) fn short_size(at: u32, instr: &Instr) -> usize
         Instr::Ldc(index) => ldc_size(*index),
         Instr::Local(_, slot) => local_size(*slot),
         Instr::Iinc(slot, by) => iinc_size(*slot, *by),
-        Instr::TableSwitch(_, targets, _) => (4 - at % 4) as usize
+        Instr::TableSwitch(_, targets, _) => (4 - at.get() % 4) as usize
             + 12
             + 4 * targets.as_slice().len(),
-        Instr::LookupSwitch(cases, _) => (4 - at % 4) as usize + 8 + 8 * cases.as_slice().len(),
+        Instr::LookupSwitch(cases, _) => (4 - at.get() % 4) as usize
+            + 8
+            + 8 * cases.as_slice().len(),
         Instr::InvokeInterface(_, _) => 5,
         Instr::InvokeDynamic(_) => 5,
         Instr::NewArray(_) => 2,
@@ -85,7 +89,7 @@ pub(crate) fn total_size(instrs: &[Instr]) -> u32
     let mut at: u32 = 0;
     let mut rest = instrs;
     while let Some((instr, tail)) = rest.split_first() {
-        let end = at as usize + short_size(at, instr);
+        let end = at as usize + short_size(Offset::new(at), instr);
         at = end.min(u32::MAX as usize) as u32;
         rest = tail;
     }
@@ -98,13 +102,13 @@ pub(crate) fn offsets_of(alloc: Global, instrs: &[Instr]) -> Result<Vec<u32>, Me
     ensures { IfOk result (λ v. v.items ≡ short_offsets 0 instrs.now) }
 {
     let mut offsets = Vec::new(alloc);
-    let mut at: u32 = 0;
+    let mut at = Offset::new(0);
     let mut rest = instrs;
     while let Some((instr, tail)) = rest.split_first() {
-        offsets.push(at)?;
-        at += short_size(at, instr) as u32;
+        offsets.push(at.get())?;
+        at = at.plus(short_size(at, instr));
         rest = tail;
     }
-    offsets.push(at)?;
+    offsets.push(at.get())?;
     Ok(offsets)
 }

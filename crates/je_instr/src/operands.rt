@@ -1,11 +1,13 @@
 //! What instructions with operands are, and which operands are refused.
 
-ghost use Rattle.std.specs.Prelude.{◌≡◌, ◌≢◌, ℕ, ◌+◌, ◌≤◌, ℤ, pos, negsuc, ◌↔◌, List, [], ◌∷◌, length, codes, Some};
+ghost use Rattle.std.specs.Prelude.{◌≡◌, ◌≢◌, ℕ, ◌+◌, ◌≤◌, ℤ, pos, negsuc, ◌↔◌, List, [], ◌∷◌};
+ghost use Rattle.std.specs.Prelude.{length, codes, Some};
 ghost use Rattle.je_consts.specs.declared.place.Place.{Place};
 ghost use Rattle.je_desc.specs.Descriptor.{MethodTypes, SpellsField, SpellsMethod, units_of_params};
 ghost use Rattle.je_desc.specs.FieldType.{FieldType, Object, Array, dimensions};
 ghost use Rattle.je_desc.specs.Names.{IsClassName};
-ghost use Rattle.je_machine.specs.Action.{GetField, Interface, Special, Sort, Invoke, New, NewArray};
+ghost use Rattle.je_machine.specs.Action.{GetField, Interface, Special, Sort, Invoke, New};
+ghost use Rattle.je_machine.specs.Action.{NewArray};
 ghost use Rattle.je_consts.specs.declared.constant.MemberTag.{MemberTag};
 ghost use Rattle.je_consts.specs.declared.constant.MemberTag.TheVariants as tags;
 ghost use Rattle.je_machine.specs.Content as content;

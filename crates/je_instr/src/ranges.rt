@@ -3,7 +3,8 @@
 ghost use Rattle.std.specs.Prelude.{◌≡◌, ℕ, pos, ◌<◌, ◌^◌, ◌↔◌, IsTrue, IsSome, FitsSigned};
 ghost use Rattle.std.specs.Int.{w16};
 ghost use Rattle.je_instr.specs.Rows.{is_simple};
-ghost use Rattle.je_instr.specs.Opcodes.{beside, simple_operation, local_operations, conditions, field_actions, array_types};
+ghost use Rattle.je_instr.specs.Opcodes.{beside, simple_operation, local_operations, conditions};
+ghost use Rattle.je_instr.specs.Opcodes.{field_actions, array_types};
 ghost use Rattle.je_instr.specs.Allowed.{AreKeys, AreRising};
 ghost use Rattle.je_instr.specs.OpcodeTests.{local_test, condition_test, field_test, array_test};
 

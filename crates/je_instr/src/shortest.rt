@@ -1,6 +1,7 @@
 //! The shortest form of each instruction as bytes (JVMS 6.5).
 
-ghost use Rattle.std.specs.Prelude.{◌≡◌, ◌<◌, ◌≤◌, ◌-◌, ◌+◌, ◌∷◌, ◌++◌, ◌^◌, length, FitsSigned, IsSome, OnOk};
+ghost use Rattle.std.specs.Prelude.{◌≡◌, ◌<◌, ◌≤◌, ◌-◌, ◌+◌, ◌∷◌, ◌++◌, ◌^◌, length, FitsSigned};
+ghost use Rattle.std.specs.Prelude.{IsSome, OnOk};
 ghost use Rattle.std.specs.Int.{w16, w32};
 ghost use Rattle.std.specs.List.{AllByRecursion, flat_map};
 ghost use Rattle.je_base.specs.Bytes.{u1, u2};
@@ -11,11 +12,15 @@ ghost use Rattle.je_instr.specs.Assembling.{IsInRange, IsFar, AreNear};
 ghost use Rattle.je_instr.specs.CodeProgram.{HasTargets};
 ghost use Rattle.je_instr.specs.Offsets.{AreShort, HasWidths};
 ghost use Rattle.je_instr.specs.Opcodes.{beside, local_operations};
-ghost use Rattle.je_instr.specs.Shortest.{s2, s4, push_bytes, ldc_bytes, with_slot, local_bytes, iinc_bytes, padding, target_bytes, case_bytes, table_bytes, lookup_bytes, last_key, short_size, short_end, short_bytes, short_code, distance};
+ghost use Rattle.je_instr.specs.Shortest.{s2, s4, push_bytes, ldc_bytes, with_slot, local_bytes};
+ghost use Rattle.je_instr.specs.Shortest.{iinc_bytes, padding, target_bytes, case_bytes};
+ghost use Rattle.je_instr.specs.Shortest.{table_bytes, lookup_bytes, last_key, short_size};
+ghost use Rattle.je_instr.specs.Shortest.{short_end, short_bytes, short_code, distance};
 
-use crate::instr::{Case, Instr};
+use crate::instr::{Case, Instr, InstrIndex};
 use crate::layout::short_size;
 use crate::near::distance;
+use crate::offset::Offset;
 use crate::opcodes as op;
 use je_base::{Memory, put_u16, put_u32};
 
@@ -59,7 +64,7 @@ fn put_ldc(out: &mut Vec<u8>, index: u16) -> Result<(), Memory>
 }
 
 /// The opcode of a load or a store with one of the slots 0 to 3 in it.
-#[tactic(auto, unfolding(crate::specs::Shortest::with_slot, crate::specs::Opcodes::local_operations))]
+#[tactic(auto, unfolding(crate::specs::Shortest::with_slot))]
 fn with_slot(opcode: u8, slot: u16) -> u8
     requires opcode { IsSome (beside local_operations opcode) }
     requires slot { slot ≤ 3 }
@@ -153,7 +158,12 @@ fn put_multi(out: &mut Vec<u8>, index: u16, count: u8) -> Result<(), Memory>
 }
 
 /// The distance from an offset to an instruction, by two bytes.
-fn put_near(out: &mut Vec<u8>, offsets: &[u32], at: u32, target: u32) -> Result<(), Memory>
+fn put_near(
+    out: &mut Vec<u8>,
+    offsets: &[u32],
+    at: Offset,
+    target: InstrIndex,
+) -> Result<(), Memory>
     requires within { target < length offsets.now }
     requires short { AreShort offsets.now }
     requires at { at < 2 ^ 16 }
@@ -167,9 +177,9 @@ fn put_near(out: &mut Vec<u8>, offsets: &[u32], at: u32, target: u32) -> Result<
 fn put_jump(
     out: &mut Vec<u8>,
     offsets: &[u32],
-    at: u32,
+    at: Offset,
     opcode: u8,
-    target: u32,
+    target: InstrIndex,
 ) -> Result<(), Memory>
     requires within { target < length offsets.now }
     requires short { AreShort offsets.now }
@@ -183,7 +193,12 @@ fn put_jump(
 }
 
 /// The distance from an offset to an instruction, by four bytes.
-fn put_target(out: &mut Vec<u8>, offsets: &[u32], at: u32, target: u32) -> Result<(), Memory>
+fn put_target(
+    out: &mut Vec<u8>,
+    offsets: &[u32],
+    at: Offset,
+    target: InstrIndex,
+) -> Result<(), Memory>
     requires within { target < length offsets.now }
     requires short { AreShort offsets.now }
     requires at { at < 2 ^ 16 }
@@ -192,7 +207,12 @@ fn put_target(out: &mut Vec<u8>, offsets: &[u32], at: u32, target: u32) -> Resul
     put_i32(out, distance(offsets, at, target))
 }
 
-fn put_targets(out: &mut Vec<u8>, offsets: &[u32], at: u32, targets: &[u32]) -> Result<(), Memory>
+fn put_targets(
+    out: &mut Vec<u8>,
+    offsets: &[u32],
+    at: Offset,
+    targets: &[InstrIndex],
+) -> Result<(), Memory>
     requires within { AllByRecursion (λ target. target < length offsets.now) targets.now }
     requires short { AreShort offsets.now }
     requires at { at < 2 ^ 16 }
@@ -207,7 +227,7 @@ fn put_targets(out: &mut Vec<u8>, offsets: &[u32], at: u32, targets: &[u32]) -> 
     Ok(())
 }
 
-fn put_cases(out: &mut Vec<u8>, offsets: &[u32], at: u32, cases: &[Case]) -> Result<(), Memory>
+fn put_cases(out: &mut Vec<u8>, offsets: &[u32], at: Offset, cases: &[Case]) -> Result<(), Memory>
     requires within { AllByRecursion (λ (c : Case). c.target < length offsets.now) cases.now }
     requires short { AreShort offsets.now }
     requires at { at < 2 ^ 16 }
@@ -225,11 +245,11 @@ fn put_cases(out: &mut Vec<u8>, offsets: &[u32], at: u32, cases: &[Case]) -> Res
 }
 
 /// Zeros up to the next multiple of four behind the opcode at an offset.
-fn put_padding(out: &mut Vec<u8>, at: u32) -> Result<(), Memory>
+fn put_padding(out: &mut Vec<u8>, at: Offset) -> Result<(), Memory>
     ensures { OnOk result (out.new.items ≡ out.old.items ++ padding at) }
 {
     let zeros = [0u8; 3];
-    out.extend_from_slice(&zeros[..(3 - at % 4) as usize])?;
+    out.extend_from_slice(&zeros[..(3 - at.get() % 4) as usize])?;
     Ok(())
 }
 
@@ -256,9 +276,9 @@ fn put_bounds(out: &mut Vec<u8>, low: i32, count: usize) -> Result<(), Memory>
 fn put_switch(
     out: &mut Vec<u8>,
     offsets: &[u32],
-    at: u32,
+    at: Offset,
     opcode: u8,
-    fallback: u32,
+    fallback: InstrIndex,
 ) -> Result<(), Memory>
     requires fallback { fallback < length offsets.now }
     requires offsets { AreShort offsets.now }
@@ -274,10 +294,10 @@ fn put_switch(
 fn put_table(
     out: &mut Vec<u8>,
     offsets: &[u32],
-    at: u32,
+    at: Offset,
     low: i32,
-    targets: &[u32],
-    fallback: u32,
+    targets: &[InstrIndex],
+    fallback: InstrIndex,
 ) -> Result<(), Memory>
     requires within { AllByRecursion (λ target. target < length offsets.now) targets.now }
     requires fallback { fallback < length offsets.now }
@@ -298,9 +318,9 @@ fn put_table(
 fn put_lookup(
     out: &mut Vec<u8>,
     offsets: &[u32],
-    at: u32,
+    at: Offset,
     cases: &[Case],
-    fallback: u32,
+    fallback: InstrIndex,
 ) -> Result<(), Memory>
     requires within { AllByRecursion (λ (c : Case). c.target < length offsets.now) cases.now }
     requires fallback { fallback < length offsets.now }
@@ -317,7 +337,7 @@ fn put_lookup(
 }
 
 /// One instruction at an offset.
-fn put_instr(out: &mut Vec<u8>, offsets: &[u32], at: u32, instr: &Instr) -> Result<(), Memory>
+fn put_instr(out: &mut Vec<u8>, offsets: &[u32], at: Offset, instr: &Instr) -> Result<(), Memory>
     requires some { 0 < length offsets.now }
     requires targets { HasTargets (length offsets.now - 1) instr.now }
     requires operands { IsInRange instr.now }
@@ -370,11 +390,11 @@ pub(crate) fn put_all(out: &mut Vec<u8>, offsets: &[u32], instrs: &[Instr]) -> R
         (out.new.items ≡ out.old.items ++ short_code offsets.now 0 instrs.now) }
     ensures widths { OnOk result (AllByRecursion HasWidths instrs.now) }
 {
-    let mut at: u32 = 0;
+    let mut at = Offset::new(0);
     let mut rest = instrs;
     while let Some((instr, tail)) = rest.split_first() {
         put_instr(out, offsets, at, instr)?;
-        at += short_size(at, instr) as u32;
+        at = at.plus(short_size(at, instr));
         rest = tail;
     }
     Ok(())

@@ -2,12 +2,21 @@
 
 ghost use Rattle.std.specs.Prelude.{◌≡◌, ℕ, pos, List, [], ◌∷◌, map, Some, None, is_some, true};
 ghost use Rattle.je_desc.specs.FieldType as types;
-ghost use Rattle.je_machine.specs.Value.{IntKind, LongKind, FloatKind, DoubleKind, ReferenceKind, Null, Long, Flt, Dbl};
-ghost use Rattle.je_machine.specs.Calculation.{IntWhole, LongWhole, Binary, Shift, ShiftLeft, ShiftRight, ShiftRightUnsigned, Negate, Extend, Truncate, Keep, BytePart, CharPart, ShortPart, CompareLongs};
-ghost use Rattle.je_machine.specs.Condition.{Zero, Ints, Same, IsNull, Equals, IsLess, IsGreater, inverse};
-ghost use Rattle.je_machine.specs.Action.{Calculate, LoadElement, StoreElement, ArrayLength, MonitorEnter, MonitorExit, GetStatic, PutStatic, GetField, PutField, Virtual, Special, Static};
-ghost use Rattle.je_machine.specs.Operation.{Nop, Push, Drop, Copy, Swap, Act, Throw, Do, Load, Store, Return};
-ghost use Rattle.je_instr.specs.Opcodes.{beside, simple_operation, local_operations, conditions, field_actions, sorts, array_types};
+ghost use Rattle.je_machine.specs.Value.{IntKind, LongKind, FloatKind, DoubleKind, ReferenceKind};
+ghost use Rattle.je_machine.specs.Value.{Null, Long, Flt, Dbl};
+ghost use Rattle.je_machine.specs.Calculation.{IntWhole, LongWhole, Binary, Shift, ShiftLeft};
+ghost use Rattle.je_machine.specs.Calculation.{ShiftRight, ShiftRightUnsigned, Negate, Extend};
+ghost use Rattle.je_machine.specs.Calculation.{Truncate, Keep, BytePart, CharPart, ShortPart};
+ghost use Rattle.je_machine.specs.Calculation.{CompareLongs};
+ghost use Rattle.je_machine.specs.Condition.{Zero, Ints, Same, IsNull, Equals, IsLess, IsGreater};
+ghost use Rattle.je_machine.specs.Condition.{inverse};
+ghost use Rattle.je_machine.specs.Action.{Calculate, LoadElement, StoreElement, ArrayLength};
+ghost use Rattle.je_machine.specs.Action.{MonitorEnter, MonitorExit, GetStatic, PutStatic};
+ghost use Rattle.je_machine.specs.Action.{GetField, PutField, Virtual, Special, Static};
+ghost use Rattle.je_machine.specs.Operation.{Nop, Push, Drop, Copy, Swap, Act, Throw, Do, Load};
+ghost use Rattle.je_machine.specs.Operation.{Store, Return};
+ghost use Rattle.je_instr.specs.Opcodes.{beside, simple_operation, local_operations, conditions};
+ghost use Rattle.je_instr.specs.Opcodes.{field_actions, sorts, array_types};
 ghost use Rattle.je_instr.specs.Rows.{elements, binaries, float_of, is_simple};
 
 /// Which operations the opcodes without operands stand for, by their numbers (JVMS 6.5).

@@ -1,6 +1,7 @@
 //! Indexes of instructions in the place of their offsets (JVMS 4.9.1).
 
-ghost use Rattle.std.specs.Prelude.{◌≡◌, ℕ, ◌<◌, ◌^◌, ◌⊎◌, ⊤, List, length, IfOk, IfErr, IfSome, IfNone};
+ghost use Rattle.std.specs.Prelude.{◌≡◌, ℕ, ◌<◌, ◌^◌, ◌⊎◌, ⊤, List, length, IfOk, IfErr, IfSome};
+ghost use Rattle.std.specs.Prelude.{IfNone};
 ghost use Rattle.std.specs.List.{AllZip};
 ghost use Rattle.je_instr.specs.declared.fault.CodeFault.{CodeFault};
 ghost use Rattle.je_instr.specs.declared.instr.Case.{Case};
@@ -8,18 +9,20 @@ ghost use Rattle.je_instr.specs.Decoding.{Begins, BeginsCase, Leads, LeadsNowher
 ghost use Rattle.je_instr.specs.Indexing.{Places, AreApart};
 
 use crate::fault::CodeFault;
-use crate::instr::{Case, Instr};
+use crate::instr::{Case, Instr, InstrIndex};
+use crate::offset::Offset;
 use je_base::Memory;
 use sqlite_items::Items;
 use std::alloc::Global;
 
 /// The index of the instruction that begins at an offset. At the offset of each instruction stands
 /// its index in `places`.
-pub(crate) fn place_of(starts: &[u32], places: &[u32], offset: u32) -> Option<u32>
+pub(crate) fn place_of(starts: &[u32], places: &[InstrIndex], offset: Offset) -> Option<InstrIndex>
     requires { Places starts.now places.now }
     ensures some { IfSome result (Begins starts.now offset) }
     ensures none { IfNone result ((k : ℕ) → Begins starts.now offset k → ⊥) }
 {
+    let offset = offset.get();
     if offset as usize >= places.len() {
         return None;
     }
@@ -38,17 +41,19 @@ pub(crate) fn place_of(starts: &[u32], places: &[u32], offset: u32) -> Option<u3
 fn targets_in(
     alloc: Global,
     starts: &[u32],
-    places: &[u32],
+    places: &[InstrIndex],
     offsets: &[u32],
-) -> Result<Option<Vec<u32>>, Memory>
+) -> Result<Option<Vec<InstrIndex>>, Memory>
     requires { Places starts.now places.now }
-    ensures some { IfOk result (λ o. IfSome o (λ v. AllZip (Begins starts.now) offsets.now v.items)) }
-    ensures none { IfOk result (λ o. IfNone o ((targets : List ℕ) → AllZip (Begins starts.now) offsets.now targets → ⊥)) }
+    ensures some { IfOk result (λ o.
+        IfSome o (λ v. AllZip (Begins starts.now) offsets.now v.items)) }
+    ensures none { IfOk result (λ o. IfNone o ((targets : List ℕ)
+        → AllZip (Begins starts.now) offsets.now targets → ⊥)) }
 {
     let mut targets = Vec::new(alloc);
     let mut rest = offsets;
     while let [offset, tail @ ..] = rest {
-        let Some(target) = place_of(starts, places, *offset) else {
+        let Some(target) = place_of(starts, places, Offset::new(*offset)) else {
             return Ok(None);
         };
         targets.push(target)?;
@@ -61,17 +66,19 @@ fn targets_in(
 fn cases_in(
     alloc: Global,
     starts: &[u32],
-    places: &[u32],
+    places: &[InstrIndex],
     located: &[Case],
 ) -> Result<Option<Vec<Case>>, Memory>
     requires { Places starts.now places.now }
-    ensures some { IfOk result (λ o. IfSome o (λ v. AllZip (BeginsCase starts.now) located.now v.items)) }
-    ensures none { IfOk result (λ o. IfNone o ((cases : List Case) → AllZip (BeginsCase starts.now) located.now cases → ⊥)) }
+    ensures some { IfOk result (λ o.
+        IfSome o (λ v. AllZip (BeginsCase starts.now) located.now v.items)) }
+    ensures none { IfOk result (λ o. IfNone o ((cases : List Case)
+        → AllZip (BeginsCase starts.now) located.now cases → ⊥)) }
 {
     let mut cases = Vec::new(alloc);
     let mut rest = located;
     while let [case, tail @ ..] = rest {
-        let Some(target) = place_of(starts, places, case.target) else {
+        let Some(target) = place_of(starts, places, Offset::new(case.target)) else {
             return Ok(None);
         };
         cases.push(Case {
@@ -87,7 +94,7 @@ fn cases_in(
 fn resolved(
     alloc: Global,
     starts: &[u32],
-    places: &[u32],
+    places: &[InstrIndex],
     located: &Instr,
 ) -> Result<Option<Instr>, Memory>
     requires { Places starts.now places.now }
@@ -95,16 +102,16 @@ fn resolved(
     ensures none { IfOk result (λ o. IfNone o (LeadsNowhere starts.now located.now)) }
 {
     match located {
-        Instr::Branch(opcode, offset) => match place_of(starts, places, *offset) {
+        Instr::Branch(opcode, offset) => match place_of(starts, places, Offset::new(*offset)) {
             Some(target) => Ok(Some(Instr::Branch(*opcode, target))),
             None => Ok(None),
         },
-        Instr::Goto(offset) => match place_of(starts, places, *offset) {
+        Instr::Goto(offset) => match place_of(starts, places, Offset::new(*offset)) {
             Some(target) => Ok(Some(Instr::Goto(target))),
             None => Ok(None),
         },
         Instr::TableSwitch(low, offsets, offset) => {
-            let Some(fallback) = place_of(starts, places, *offset) else {
+            let Some(fallback) = place_of(starts, places, Offset::new(*offset)) else {
                 return Ok(None);
             };
             let Some(targets) = targets_in(alloc, starts, places, offsets.as_slice())? else {
@@ -113,7 +120,7 @@ fn resolved(
             Ok(Some(Instr::TableSwitch(*low, Items::from_vec(targets), fallback)))
         }
         Instr::LookupSwitch(cases, offset) => {
-            let Some(fallback) = place_of(starts, places, *offset) else {
+            let Some(fallback) = place_of(starts, places, Offset::new(*offset)) else {
                 return Ok(None);
             };
             let Some(cases) = cases_in(alloc, starts, places, cases.as_slice())? else {
@@ -129,14 +136,15 @@ fn resolved(
 pub(crate) fn all_resolved(
     alloc: Global,
     starts: &[u32],
-    places: &[u32],
+    places: &[InstrIndex],
     located: &[Instr],
 ) -> Result<Vec<Instr>, CodeFault>
     requires places { Places starts.now places.now }
     requires long { length starts.now ≡ length located.now }
     ensures found { IfOk result (λ v. AllZip (Leads starts.now) located.now v.items) }
     ensures fault { IfErr result (λ e. (e ≡ CodeFault.Memory)
-        ⊎ ((at : ℕ) × IsFirstNowhere starts.now located.now starts.now at × (e ≡ CodeFault.BadTarget at))) }
+        ⊎ ((at : ℕ) × IsFirstNowhere starts.now located.now starts.now at
+        × (e ≡ CodeFault.BadTarget at))) }
 {
     let mut instrs = Vec::new(alloc);
     let mut rest = located;
@@ -153,7 +161,11 @@ pub(crate) fn all_resolved(
 }
 
 /// At each offset of an instruction its index.
-pub(crate) fn places_of(alloc: Global, starts: &[u32], size: usize) -> Result<Vec<u32>, Memory>
+pub(crate) fn places_of(
+    alloc: Global,
+    starts: &[u32],
+    size: usize,
+) -> Result<Vec<InstrIndex>, Memory>
     requires apart { AreApart starts.now }
     requires within { (offset k : ℕ) → Begins starts.now offset k → offset < size }
     requires short { length starts.now < 2 ^ 32 }
@@ -161,7 +173,7 @@ pub(crate) fn places_of(alloc: Global, starts: &[u32], size: usize) -> Result<Ve
 {
     let mut places = vec![in alloc; 0; size]?;
     for k in 0..starts.len() {
-        places[starts[k] as usize] = k as u32;
+        places[starts[k] as usize] = k as InstrIndex;
     }
     Ok(places)
 }

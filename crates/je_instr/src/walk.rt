@@ -19,7 +19,8 @@ pub(crate) fn walk(
     consts: &Consts,
 ) -> Result<(Vec<Instr>, Vec<u32>), CodeFault>
     requires { length code.now < 2 ^ 31 }
-    ensures found { IfOk result (λ x. Follow consts.now code.now 0 x.0.items x.1.items (length code.now)) }
+    ensures found { IfOk result (λ x.
+        Follow consts.now code.now 0 x.0.items x.1.items (length code.now)) }
     ensures fault { IfErr result (λ e. (e ≡ CodeFault.Memory) ⊎ StopsAt consts.now code.now e) }
 {
     let mut located = Vec::new(alloc);

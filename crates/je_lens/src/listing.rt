@@ -4,14 +4,24 @@ use crate::code_parts::{MethodFault, code_parts, program_of};
 use crate::files::{Stop, class_at, put_fault, put_text};
 use crate::methods::{is_code, method_words};
 use crate::mnemonics::mnemonic;
+use crate::rows::put_rows;
 use je_base::{Files, Memory, Sink};
 use je_class::Member;
 use je_consts::Consts;
 use je_instr::{Case, Decoded, Handler, Instr, InstrIndex};
 use std::alloc::Global;
 
+/// What of code is printed.
+#[derive(Clone, Copy, Debug, PartialEq, Eq)]
+pub enum Listed {
+    /// Its instructions and handlers.
+    Instrs,
+    /// The rows of its tables.
+    Rows,
+}
+
 /// The offset of the instruction of an index, or that of the end.
-fn offset_of(offsets: &[u32], index: InstrIndex) -> u32 {
+pub fn offset_of(offsets: &[u32], index: InstrIndex) -> u32 {
     match offsets.get(index as usize) {
         Some(offset) => *offset,
         None => u32::MAX,
@@ -135,13 +145,23 @@ fn put_code(
 }
 
 /// The lines of a method, behind one that names it.
-fn lines_of(alloc: Global, path: &str, consts: &Consts, method: &Member) -> Result<String, Memory> {
+fn lines_of(
+    alloc: Global,
+    listed: Listed,
+    path: &str,
+    consts: &Consts,
+    method: &Member,
+) -> Result<String, Memory> {
     let mut text = String::new(alloc);
     for attribute in method.attributes.as_slice() {
         if is_code(consts, attribute) {
             let words = method_words(alloc, consts, method)?;
             writeln!(text, "method {path} {words}")?;
-            match put_code(alloc, &mut text, attribute.bytes.as_slice(), consts) {
+            let put = match listed {
+                Listed::Instrs => put_code(alloc, &mut text, attribute.bytes.as_slice(), consts),
+                Listed::Rows => put_rows(alloc, &mut text, &attribute.bytes, consts),
+            };
+            match put {
                 Ok(()) => {}
                 Err(MethodFault::Memory) => return Err(Memory),
                 Err(fault) => {
@@ -157,6 +177,7 @@ fn lines_of(alloc: Global, path: &str, consts: &Consts, method: &Member) -> Resu
 /// Puts the lines of the methods of each class file; answers how many have a fault.
 pub fn list_all<F: Files, O: Sink>(
     alloc: Global,
+    listed: Listed,
     paths: &[String],
     files: &mut F,
     out: &mut O,
@@ -166,7 +187,7 @@ pub fn list_all<F: Files, O: Sink>(
         match class_at(alloc, path.as_str(), files) {
             Ok(class) => {
                 for method in class.methods() {
-                    let lines = lines_of(alloc, path.as_str(), class.consts(), method)?;
+                    let lines = lines_of(alloc, listed, path.as_str(), class.consts(), method)?;
                     put_text(out, lines.as_str())?;
                 }
             }

@@ -1,10 +1,12 @@
 //! The program `je_lens`: shows what the parts of the editor answer on real class files.
 //!
-//! Stands on je_base, je_class, je_consts and je_instr. `je_lens reread PATH..` reads class files
-//! and writes them again, `je_lens code PATH..` decodes the code of their methods and assembles it
-//! again, and `je_lens listing PATH..` prints what was decoded.
+//! Stands on je_base, je_class, je_code, je_consts and je_instr. `je_lens reread PATH..` reads
+//! class files and writes them again, `je_lens code PATH..` decodes the code of their methods and
+//! assembles it again, and `je_lens tables PATH..` does so with the tables of the code; `je_lens
+//! listing PATH..` prints what was decoded, and `je_lens rows PATH..` the rows of the tables.
 #![tactic(auto)]
 
+mod again;
 mod code;
 mod code_parts;
 mod files;
@@ -12,13 +14,16 @@ mod listing;
 mod methods;
 mod mnemonics;
 mod reread;
+mod rows;
 mod same;
+mod tables;
 mod verb;
+mod verdict;
 
-use code::code_of_all;
+use again::{Part, all_again};
 use files::Stop;
 use je_base::{FsFiles, StdSink};
-use listing::list_all;
+use listing::{Listed, list_all};
 use reread::reread_all;
 use std::env;
 use std::process::ExitCode;
@@ -46,8 +51,10 @@ fn main(rt: HostRuntime) -> ExitCode {
     let mut out = StdSink::output(rt.stdout());
     let amiss = match verb {
         Verb::Reread => reread_all(rt.alloc(), paths, &mut files, &mut out),
-        Verb::Code => code_of_all(rt.alloc(), paths, &mut files, &mut out),
-        Verb::Listing => list_all(rt.alloc(), paths, &mut files, &mut out),
+        Verb::Code => all_again(rt.alloc(), Part::Code, paths, &mut files, &mut out),
+        Verb::Tables => all_again(rt.alloc(), Part::Tables, paths, &mut files, &mut out),
+        Verb::Listing => list_all(rt.alloc(), Listed::Instrs, paths, &mut files, &mut out),
+        Verb::Rows => list_all(rt.alloc(), Listed::Rows, paths, &mut files, &mut out),
     };
     match amiss {
         Ok(0) => ExitCode::from(0),

@@ -14,7 +14,7 @@ pub fn is_code(consts: &Consts, attribute: &Attribute) -> bool {
 }
 
 /// The text at an index as it is shown.
-fn shown(alloc: Global, consts: &Consts, index: ConstIndex) -> Result<String, Memory> {
+pub fn shown(alloc: Global, consts: &Consts, index: ConstIndex) -> Result<String, Memory> {
     match consts.text(index) {
         Some(text) => text.show(),
         None => Ok(format!(in alloc; "?")?),

@@ -7,8 +7,12 @@ pub enum Verb {
     Reread,
     /// The code of their methods is decoded and assembled again.
     Code,
+    /// The code of their methods with its tables is read, written and read again.
+    Tables,
     /// What was decoded is printed.
     Listing,
+    /// The rows of the tables are printed.
+    Rows,
 }
 
 impl Verb {
@@ -17,7 +21,9 @@ impl Verb {
         match word {
             "reread" => Some(Verb::Reread),
             "code" => Some(Verb::Code),
+            "tables" => Some(Verb::Tables),
             "listing" => Some(Verb::Listing),
+            "rows" => Some(Verb::Rows),
             _ => None,
         }
     }

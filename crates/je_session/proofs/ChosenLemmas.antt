@@ -9,11 +9,11 @@ use Rattle.je_consts.specs.declared.place.Place.{Place}
 use Rattle.je_machine.specs.Action.{Action}
 use Rattle.je_machine.specs.Operation.{Nop, Push, Drop, Copy, Swap, Act, Throw, Operation, Do, Load, Store, Increment, Branch, Goto, Switch, Return}
 use Rattle.je_instr.specs.declared.instr.Instr.{Instr}
-use Rattle.je_instr.specs.Callee.{CallsSoFar}
 use Rattle.je_instr.specs.Resolves.{Resolves}
 use Rattle.je_session.specs.declared.plan.Fragment.{Fragment}
 use Rattle.je_session.specs.declared.plan.Rule.{Rule}
 use Rattle.je_session.specs.Chosen.{fits}
+use Rattle.je_session.specs.Kept.{IsSoFar}
 use Rattle.je_session.specs.Splice.{chosen_fragment, AreChosen}
 
 find-never : {A : Type 0} (test : A → Bool) → ((x : A) → test x ≡ false) → (xs : List A) → find test xs ≡ None
@@ -63,13 +63,13 @@ all_more P (y ∷ xs) x all last = (all.0, all_more P xs x all.1 last)
 -- one more instruction, of which an operation is known
 pub AreChosen-more : (consts : List Place) (rules : List Rule) (instrs : List Instr) (i : ℕ) (d : Instr) (chosen : List (Option Fragment)) (choice : Option Fragment)
     → AreChosen consts rules (take i instrs) chosen → i < length instrs
-    → (operation : Operation) → Resolves consts (get_or instrs i d) operation → CallsSoFar consts (get_or instrs i d) → choice ≡ chosen_fragment rules operation
+    → (operation : Operation) → Resolves consts (get_or instrs i d) operation → IsSoFar consts (get_or instrs i d) → choice ≡ chosen_fragment rules operation
     → AreChosen consts rules (take (i + 1) instrs) (chosen ++ choice ∷ [])
-AreChosen-more consts rules instrs i d chosen choice before within operation resolves calls choice_is =
+AreChosen-more consts rules instrs i d chosen choice before within operation resolves so_far choice_is =
     rw (take_more instrs i d within) (record {
       operations = before.operations ++ operation ∷ [];
       resolved = all_zipped_more (Resolves consts) (take i instrs) before.operations (get_or instrs i d) operation before.resolved resolves;
-      calls = all_more (CallsSoFar consts) (take i instrs) (get_or instrs i d) before.calls calls;
+      so_far = all_more (IsSoFar consts) (take i instrs) (get_or instrs i d) before.so_far so_far;
       chosen_is =
           ap (λ (l : List (Option Fragment)). l ++ choice ∷ []) before.chosen_is
           ∙ ap (λ (c : Option Fragment). map (chosen_fragment rules) before.operations ++ c ∷ []) choice_is

@@ -10,7 +10,7 @@ use Rattle.je_class.specs.declared.member.Member.{Member}
 use Rattle.je_class.specs.Class.{Class}
 use Rattle.je_class.specs.Grown.{IsSameAttribute, IsSameMember, NamesStay}
 use Rattle.je_machine.specs.Operation.{Program}
-use Rattle.je_instr.specs.Code.{Code}
+use Rattle.je_instr.specs.declared.program.RawHandler.{RawHandler}
 use Rattle.je_instr.specs.CodeProgram.{CodeProgram}
 use Rattle.je_session.specs.ProgramOf.{IsCodeAt, ProgramOf}
 
@@ -28,7 +28,8 @@ code_stays old new attributes at attribute same is = record {
   only = λ i other here is_code. is.only i other here (sym (all_at (IsSameAttribute old new) attributes i other same here) ∙ is_code);
 }
 
-pub program_stays : ((old new : List Place) → Keeps old new → (is_static : Bool) (text : List ℕ) (code : Code) (p : Program) → CodeProgram old is_static text code p → CodeProgram new is_static text code p)
+pub program_stays : ((old new : List Place) → Keeps old new → (is_static : Bool) (text code : List ℕ) (table : List RawHandler) (p : Program)
+    → CodeProgram old is_static text code table p → CodeProgram new is_static text code table p)
     → (c d : Class) (at : ℕ) (m : Member) (program : Program) → NamesStay c d.consts → Keeps c.consts d.consts → slice_get c.methods at ≡ Some m
     → ProgramOf c m program → ProgramOf d m program
 program_stays stays c d at m program names keeps here p =
@@ -43,5 +44,5 @@ program_stays stays c d at m program names keeps here p =
       is_code = code_stays c.consts d.consts m.attributes p.at p.attribute same.attributes p.is_code;
       code = p.code;
       bytes = p.bytes;
-      of_code = stays c.consts d.consts keeps p.is_static p.text p.code program p.of_code;
+      of_code = stays c.consts d.consts keeps p.is_static p.text p.code.code p.code.handlers program p.of_code;
     }

@@ -1,15 +1,17 @@
 -- Where the instructions of a spliced program go.
 use Rattle.std.proofs.Common.{◌≡◌, ℕ, zero, suc, ◌+◌, ◌<◌, ◌≤◌, List, [], ◌∷◌, ◌++◌, length, Some, None, refl, sym, ap, ◌∙◌, subst, add-one, arith, length-append}
-use Rattle.std.specs.Prelude.{slice_get, map, option_and_then}
+use Rattle.std.specs.Prelude.{slice_get, slice_index, map, Option, option_and_then}
 use Rattle.std.specs.List.{AllByRecursion}
 use Rattle.std.proofs.lemmas.List.{get_or-append-add}
 use Rattle.std.proofs.lemmas.Option.{slice_get-get_or, slice_get_within, slice_get_past, get_or_from_slice_get}
 use Rattle.je_machine.specs.Operation.{Operation, Do, Load, Store, Increment, Branch, Goto, Switch, Return, Program}
 use Rattle.je_machine.specs.Moved.{retargeted}
+use Rattle.je_session.specs.declared.plan.Fragment.{Fragment}
+use Rattle.je_session.specs.declared.plan.Fragment.TheVariants.{Empty, Proceed}
 use Rattle.je_session.specs.declared.plan.Rule.{Rule}
 use Rattle.je_session.specs.Editable.{IsPlain}
 use Rattle.je_session.specs.KeepsLines.{IsIndexMap, IsAllPieces}
-use Rattle.je_session.specs.Splice.{new_instrs, chosen_fragment}
+use Rattle.je_session.specs.Splice.{new_instrs, new_places, chosen_fragment}
 use Rattle.je_session.proofs.SpliceLemmas.{new_instrs-first}
 
 -- the operations with a block in the place of each one that a rule chooses
@@ -137,3 +139,33 @@ all_pieces p q rules new_is = record {
   between = λ i lt. refl;
   behind = new_index-end rules p.operations ∙ ap length (sym new_is);
 }
+
+-- ---- the new indexes as a list
+
+-- what stands in the place of one is as long, whatever it is
+one_length : {A B : Type 0} (choice : Option Fragment) (x : A) (y : B) → length (new_instrs (choice ∷ []) (x ∷ [])) ≡ length (new_instrs (choice ∷ []) (y ∷ []))
+one_length None x y = refl
+one_length (Some Empty) x y = refl
+one_length (Some Proceed) x y = refl
+
+-- and so is all of it
+pub new_instrs-long : {A B : Type 0} (chosen : List (Option Fragment)) (xs : List A) (ys : List B) → length xs ≡ length ys → length (new_instrs chosen xs) ≡ length (new_instrs chosen ys)
+new_instrs-long [] xs ys same = same
+new_instrs-long (choice ∷ chosen) [] [] same = refl
+new_instrs-long (choice ∷ chosen) [] (y ∷ ys) same = absurd (omega arith)
+new_instrs-long (choice ∷ chosen) (x ∷ xs) [] same = absurd (omega arith)
+new_instrs-long (None ∷ chosen) (x ∷ xs) (y ∷ ys) same = ap suc (new_instrs-long chosen xs ys (omega arith))
+new_instrs-long (Some Empty ∷ chosen) (x ∷ xs) (y ∷ ys) same = new_instrs-long chosen xs ys (omega arith)
+new_instrs-long (Some Proceed ∷ chosen) (x ∷ xs) (y ∷ ys) same = ap suc (new_instrs-long chosen xs ys (omega arith))
+
+-- the new index of each instruction, and of the end
+pub place_is : {A : Type 0} (rules : List Rule) (at i : ℕ) (operations : List Operation) (xs : List A) → length operations ≡ length xs → i ≤ length xs
+    → slice_index (new_places at (map (chosen_fragment rules) operations) xs) i ≡ at + new_index rules i operations
+place_is rules at zero operations [] same le = omega arith
+place_is rules at (suc i) operations [] same le = absurd (omega arith)
+place_is rules at i [] (x ∷ xs) same le = absurd (omega arith)
+place_is rules at zero (o ∷ operations) (x ∷ xs) same le = omega arith
+place_is rules at (suc i) (o ∷ operations) (x ∷ xs) same le =
+    let long = one_length (chosen_fragment rules o) x o in
+    let rest = place_is rules (at + length (new_instrs (chosen_fragment rules o ∷ []) (x ∷ []))) i operations xs (omega arith) (omega arith) in
+    rest ∙ omega (arith, long)

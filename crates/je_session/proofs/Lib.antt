@@ -16,3 +16,8 @@ pub mod IndexMapLemmas
 pub mod OutputLemmas
 pub mod RefusalLemmas
 pub mod GrownLemmas
+pub mod SizeLemmas
+pub mod ThereLemmas
+pub mod NewCodeLemmas
+pub mod RowLemmas
+pub mod SourceLemmas

@@ -7,8 +7,9 @@ use Rattle.je_class.specs.declared.member.Attribute.{Attribute}
 use Rattle.je_class.specs.declared.member.Member.{Member}
 use Rattle.je_class.specs.Class.{Class}
 use Rattle.je_machine.specs.Operation.{Program}
-use Rattle.je_instr.specs.Code.{Code, CodeBytes}
+use Rattle.je_instr.specs.declared.program.RawHandler.{RawHandler}
 use Rattle.je_instr.specs.CodeProgram.{CodeProgram}
+use Rattle.je_code.specs.Code.{Code, CodeBytes}
 use Rattle.je_session.specs.ProgramOf.{IsCodeAt, ProgramOf}
 
 pub some_one : {A : Type 0} (o : Option A) (x y : A) → o ≡ Some x → o ≡ Some y → y ≡ x
@@ -31,8 +32,8 @@ OneProgram = (c : Class) (m : Member) (p q : Program) → ProgramOf c m p → Pr
 -- bytes are one code, and a code is one program
 pub record ProgramLaws : Type 0 where
   pub code : (info : List ℕ) (c d : Code) → CodeBytes info c → CodeBytes info d → c ≡ d
-  pub program : (consts : List Place) (is_static : Bool) (text : List ℕ) (code : Code) (p q : Program)
-      → CodeProgram consts is_static text code p → CodeProgram consts is_static text code q → p ≡ q
+  pub program : (consts : List Place) (is_static : Bool) (text code : List ℕ) (table : List RawHandler) (p q : Program)
+      → CodeProgram consts is_static text code table p → CodeProgram consts is_static text code table q → p ≡ q
 
 -- the codes of a method are one
 pub one_code : ProgramLaws → (c : Class) (m : Member) (p q : Program) (ip : ProgramOf c m p) (iq : ProgramOf c m q) → ip.code ≡ iq.code
@@ -44,8 +45,8 @@ pub one_program : ProgramLaws → OneProgram
 one_program laws c m p q ip iq =
     let flag = one_flag iq.is_static ip.is_static _ iq.flag ip.flag in
     let text = some_one (text_at c.consts m.descriptor) ip.text iq.text ip.descriptor iq.descriptor in
-    let of_code : CodeProgram c.consts ip.is_static ip.text ip.code q =
-    subst (λ b. CodeProgram c.consts b ip.text ip.code q) flag
-    (subst (λ t. CodeProgram c.consts iq.is_static t ip.code q) text
-    (subst (λ k. CodeProgram c.consts iq.is_static iq.text k q) (sym (one_code laws c m p q ip iq)) iq.of_code)) in
-    laws.program c.consts ip.is_static ip.text ip.code p q ip.of_code of_code
+    let of_code : CodeProgram c.consts ip.is_static ip.text ip.code.code ip.code.handlers q =
+    subst (λ b. CodeProgram c.consts b ip.text ip.code.code ip.code.handlers q) flag
+    (subst (λ t. CodeProgram c.consts iq.is_static t ip.code.code ip.code.handlers q) text
+    (subst (λ (k : Code). CodeProgram c.consts iq.is_static iq.text k.code k.handlers q) (sym (one_code laws c m p q ip iq)) iq.of_code)) in
+    laws.program c.consts ip.is_static ip.text ip.code.code ip.code.handlers p q ip.of_code of_code

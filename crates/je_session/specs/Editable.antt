@@ -8,23 +8,38 @@ use Rattle.je_class.specs.declared.member.Member.{Member}
 use Rattle.je_class.specs.Class.{Class, IsMethodAt}
 use Rattle.je_machine.specs.Action.{operands_of, result_of}
 use Rattle.je_machine.specs.Operation.{Act, Operation, Do, Branch, Goto, Switch}
-use Rattle.je_instr.specs.declared.code.MethodCode.{MethodCode}
 use Rattle.je_instr.specs.declared.instr.Instr.{Instr}
 use Rattle.je_instr.specs.declared.instr.Instr.TheVariants as instr
 use Rattle.je_instr.specs.declared.opcodes.TheConstants as op
-use Rattle.je_instr.specs.Code.{CodeBytes}
-use Rattle.je_instr.specs.Plain.{plain_code}
-use Rattle.je_instr.specs.Spelling.{FitsInstr}
+use Rattle.je_instr.specs.declared.program.Decoded.{Decoded}
+use Rattle.je_instr.specs.Decoding.{Decodes}
+use Rattle.je_code.specs.declared.attr.CodeAttr.{CodeAttr}
+use Rattle.je_code.specs.Code.{Code, CodeBytes}
+use Rattle.je_code.specs.CodeAttr.{IsCodeAttr, HasRowsWithin}
 use Rattle.je_session.specs.ProgramOf.{IsCode}
 
--- The method is static and has one attribute, a Code that is this one.
-pub record IsCodeOf (consts : List Place) (m : Member) (code : MethodCode) : Type 0 where
+-- the method is static and has one attribute, a Code
+pub record HasOneCode (consts : List Place) (m : Member) (attribute : Attribute) : Type 0 where
   pub static : IsBitSet m.access 3
-  pub attribute : Attribute
   pub attributes : m.attributes ≡ attribute ∷ []
   pub is_code : IsCode consts attribute
-  pub bytes : CodeBytes attribute.bytes (plain_code code)
-  pub fits : AllByRecursion FitsInstr code.instrs
+
+-- That Code is this one, without handlers.
+pub record IsCodeOf (consts : List Place) (m : Member) (code : CodeAttr) : Type 0 where
+  pub attribute : Attribute
+  pub one : HasOneCode consts m attribute
+  pub is_attr : IsCodeAttr consts attribute.bytes code
+  pub rows : HasRowsWithin code
+  pub no_handlers : code.decoded.program.handlers ≡ []
+
+-- That Code, without handlers, is decoded to this program. What its tables say plays no part.
+pub record IsDecodedTo (consts : List Place) (m : Member) (decoded : Decoded) : Type 0 where
+  pub attribute : Attribute
+  pub one : HasOneCode consts m attribute
+  pub code : Code
+  pub bytes : CodeBytes attribute.bytes code
+  pub decodes : Decodes consts code.code code.handlers decoded
+  pub no_handlers : code.handlers ≡ []
 
 -- the instruction that returns without a result
 abbrev pub returning : Instr
@@ -45,9 +60,9 @@ pub record IsReturning (instrs : List Instr) : Type 0 where
   pub no_return : AllByRecursion (λ i. i ≢ returning) front
 
 -- The method of this name stands at this place, and has this code.
-pub record IsEditable (c : Class) (name : List ℕ) (at : ℕ) (code : MethodCode) : Type 0 where
+pub record IsEditable (c : Class) (name : List ℕ) (at : ℕ) (code : CodeAttr) : Type 0 where
   pub is_method : IsMethodAt c name (codes "()V") at
   pub method : Member
   pub here : slice_get c.methods at ≡ Some method
   pub code_of : IsCodeOf c.consts method code
-  pub returning : IsReturning code.instrs
+  pub returning : IsReturning code.decoded.program.instrs

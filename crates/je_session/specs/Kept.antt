@@ -12,8 +12,13 @@ use Rattle.je_class.specs.Class.{Class, IsMethodAt}
 use Rattle.je_machine.specs.Operation.{Operation, Return, Program}
 use Rattle.je_instr.specs.declared.instr.Instr.{Instr}
 use Rattle.je_instr.specs.declared.instr.Instr.TheVariants as instr
-use Rattle.je_instr.specs.Callee.{CallsSoFar}
-use Rattle.je_instr.specs.Code.{RawHandler, AttributeInfo, Code, CodeBytes}
+use Rattle.je_instr.specs.declared.opcodes.TheConstants as op
+use Rattle.je_instr.specs.declared.program.RawHandler.{RawHandler}
+use Rattle.je_instr.specs.Callee.{IsCallee}
+use Rattle.je_code.specs.declared.rows.Tables.{Tables}
+use Rattle.je_code.specs.declared.info.AttributeInfo.{AttributeInfo}
+use Rattle.je_code.specs.Code.{Code, CodeBytes}
+use Rattle.je_code.specs.Named.{IsNamed, tables_of}
 use Rattle.je_session.specs.declared.plan.MethodPlan.{MethodPlan}
 use Rattle.je_session.specs.Chosen.{matched}
 use Rattle.je_session.specs.ProgramOf.{IsCode, IsCodeAt, ProgramOf}
@@ -58,7 +63,7 @@ RefersTo _ k = ⊥
 
 -- The code names the constant of this index: an instruction does, a handler whose catch type it is
 -- (JVMS 4.7.3), or an attribute of the code whose name it is. A frame's class stands in the bytes
--- of such an attribute, of which there are none so far.
+-- of such an attribute, and no frames are written so far.
 pub data NamedByCode (code : Code) (instrs : List Instr) : ℕ → Type 0 where
   by_instr : (k at : ℕ) (i : Instr) → slice_get instrs at ≡ Some i → NamesConst k i
       → NamedByCode code instrs k
@@ -86,7 +91,7 @@ pub record KeepsConsts (old : Class) (plans : List MethodPlan) (new : Class) : T
       → (at : ℕ) × IsPlanned old plans at
       × (m : Member) × (slice_get new.methods at ≡ Some m)
       × (program : Program) × (p : ProgramOf new m program)
-      × IsNeeded new.consts (length old.consts) p.code p.of_code.instrs k
+      × IsNeeded new.consts (length old.consts) p.code p.of_code.decoded.program.instrs k
   pub new_entry : (k j : ℕ) (c : Const) → length old.consts < k
       → const_at new.consts k ≡ Some c → const_at new.consts j ≡ Some c → j ≡ k
 
@@ -96,32 +101,37 @@ pub record KeepsConsts (old : Class) (plans : List MethodPlan) (new : Class) : T
 abbrev pub KeepsAttribute : List Place → Attribute → Attribute → Type 0
 KeepsAttribute consts old new = (new ≡ old) ⊎ (IsCode consts old × (new.name ≡ old.name))
 
--- The Code has the tables of the old one, of which there are none so far. Below version 50 it has
--- no StackMapTable.
-pub record HasTables (consts : List Place) (m : Member) : Type 0 where
+-- The Code has tables of lines and of local variables, each left out where it has no rows, and no
+-- other attribute: below version 50 it has no StackMapTable (JVMS 4.7.4).
+pub record HasTablesAlone (consts : List Place) (m : Member) : Type 0 where
   pub at : ℕ
   pub attribute : Attribute
   pub is_code : IsCodeAt consts m.attributes at attribute
   pub code : Code
   pub bytes : CodeBytes attribute.bytes code
-  pub none : code.attributes ≡ []
+  pub offsets : List ℕ
+  pub tables : Tables
+  pub alone : AllZip (IsNamed consts) (tables_of offsets tables) code.attributes
 
 -- a planned method: all but the bytes of its Code is as it was
-pub record KeepsButCode (old new : Class) (m n : Member) : Type 0 where
+pub record KeepsButCode (old : Class) (m n : Member) : Type 0 where
   pub access : n.access ≡ m.access
   pub name : n.name ≡ m.name
   pub descriptor : n.descriptor ≡ m.descriptor
   pub attributes : AllZip (KeepsAttribute old.consts) m.attributes n.attributes
-  pub tables : HasTables new.consts n
 
--- A method without a plan is as it was, and so is one whose plan chooses nothing.
+-- A method without a plan is as it was, and so is one whose plan chooses nothing. Where something
+-- is chosen, the attributes of the Code that are no tables are gone.
 pub record KeepsMethod (old : Class) (plans : List MethodPlan) (new : Class) (at : ℕ)
     (m n : Member) : Type 0 where
   pub unplanned : (IsPlanned old plans at → ⊥) → n ≡ m
-  pub planned : IsPlanned old plans at → KeepsButCode old new m n
+  pub planned : IsPlanned old plans at → KeepsButCode old m n
   pub unchosen : (k : ℕ) (plan : MethodPlan) (program : Program) → slice_get plans k ≡ Some plan
       → IsPlanOf old at plan
       → ProgramOf old m program → matched program plan.rules ≡ 0 → n ≡ m
+  pub chosen : (k : ℕ) (plan : MethodPlan) (program : Program) → slice_get plans k ≡ Some plan
+      → IsPlanOf old at plan
+      → ProgramOf old m program → matched program plan.rules ≢ 0 → HasTablesAlone new.consts n
 
 -- All but the planned methods' code is as it was.
 pub record Kept (old : Class) (plans : List MethodPlan) (new : Class) : Type 0 where
@@ -140,9 +150,16 @@ pub record Kept (old : Class) (plans : List MethodPlan) (new : Class) : Type 0 w
 
 -- ---- the methods that can be edited so far
 
--- A method of this name that is static, has one attribute, a Code without handlers and attributes,
--- and whose instructions are any number that do nothing or call a static method without parameters
--- and result, and then one that returns.
+-- an instruction that does nothing, one that returns without a result, or a call of a static method
+-- without parameters and result
+abbrev pub IsSoFar : List Place → Instr → Type 0
+IsSoFar consts (instr.Simple opcode) = (opcode ≡ op.NOP) ⊎ (opcode ≡ op.RETURN)
+IsSoFar consts (instr.Invoke opcode index) = (opcode ≡ op.INVOKESTATIC) × IsCallee consts index
+IsSoFar consts _ = ⊥
+
+-- A method of this name that is static, has one attribute, a Code without handlers, and whose
+-- instructions are any number that do nothing or call a static method without parameters and
+-- result, and then one that returns. The Code may have attributes.
 pub record MethodForm (c : Class) (name : List ℕ) : Type 0 where
   pub at : ℕ
   pub is_method : IsMethodAt c name (codes "()V") at
@@ -153,8 +170,7 @@ pub record MethodForm (c : Class) (name : List ℕ) : Type 0 where
   pub program : Program
   pub of : ProgramOf c method program
   pub no_handlers : of.code.handlers ≡ []
-  pub no_attributes : of.code.attributes ≡ []
-  pub calls : AllByRecursion (CallsSoFar c.consts) of.of_code.instrs
+  pub instrs : AllByRecursion (IsSoFar c.consts) of.of_code.decoded.program.instrs
   pub front : List Operation
   pub operations : program.operations ≡ front ++ Return None ∷ []
   pub no_return : AllByRecursion (λ operation. operation ≢ Return None) front

@@ -10,7 +10,6 @@ pub mod ProgramOf
 pub mod Kept
 pub mod Forms
 pub mod EditedMethod
-pub mod Tables
 pub mod KeepsLines
 pub mod ClassEdit
 pub mod Moment

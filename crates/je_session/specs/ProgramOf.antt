@@ -6,8 +6,8 @@ use Rattle.je_class.specs.declared.member.Attribute.{Attribute}
 use Rattle.je_class.specs.declared.member.Member.{Member}
 use Rattle.je_class.specs.Class.{Class}
 use Rattle.je_machine.specs.Operation.{Program}
-use Rattle.je_instr.specs.Code.{Code, CodeBytes}
 use Rattle.je_instr.specs.CodeProgram.{CodeProgram}
+use Rattle.je_code.specs.Code.{Code, CodeBytes}
 
 -- the attribute's name is `Code`
 abbrev pub IsCode : List Place → Attribute → Type 0
@@ -33,4 +33,4 @@ pub record ProgramOf (c : Class) (m : Member) (program : Program) : Type 0 where
   pub is_code : IsCodeAt c.consts m.attributes at attribute
   pub code : Code
   pub bytes : CodeBytes attribute.bytes code
-  pub of_code : CodeProgram c.consts is_static text code program
+  pub of_code : CodeProgram c.consts is_static text code.code code.handlers program

@@ -1,6 +1,7 @@
 //! The edit of a method: which one it is, what its plan chooses, and what comes of it.
 
 mod chosen;
+mod code;
 mod editable;
 mod method;
 mod splice;

@@ -11,6 +11,7 @@ ghost use Rattle.je_session.specs.Cause.{Refusal, IsRefusal};
 ghost use Rattle.je_session.specs.ProgramOf.{ProgramOf};
 
 use je_class::{names_stay, one_class};
+use je_code::one_code;
 use je_instr::contents_stay;
 
 /// Words and files are refused in one way at most.
@@ -27,7 +28,8 @@ pub fn one_program()
     ensures { (c : Class) (m : Member) (p q : Program) →
         ProgramOf c m p → ProgramOf c m q → p ≡ q }
 {
-    // The law of the layer below that the proof stands on.
+    // The laws of the layers below that the proof stands on.
+    one_code();
     je_instr::one_program();
 }
 

@@ -1,8 +1,8 @@
 //! A run of the editor, from the words of the command line to the written class files.
 //!
-//! Stands on je_base, je_consts, je_desc, je_class, je_machine and je_instr. Offers above: what is
-//! written after a run that is done reads back as the source class but for the planned method,
-//! which does what the original with its fragments does.
+//! Stands on je_base, je_consts, je_desc, je_class, je_machine, je_instr and je_code. Offers above:
+//! what is written after a run that is done reads back as the source class but for the planned
+//! method, which does what the original with its fragments does.
 #![tactic(auto)]
 
 mod edit;

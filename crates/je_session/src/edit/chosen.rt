@@ -1,15 +1,15 @@
 //! Which of a method's instructions give way to a fragment.
 
-ghost use Rattle.std.specs.Prelude.{◌≡◌, [], List, None, codes, count_by, is_some, IfOk, IfErr, OnErr};
+ghost use Rattle.std.specs.Prelude.{◌≡◌, [], List, None, codes, count_by, is_some, IfOk, IfErr};
+ghost use Rattle.std.specs.Prelude.{OnOk, OnErr};
 ghost use Rattle.std.specs.List.{AllByRecursion};
 ghost use Rattle.je_consts.specs.declared.constant.MemberTag.TheVariants.{Method};
 ghost use Rattle.je_machine.specs.Content.{Member};
 ghost use Rattle.je_machine.specs.Operation.{Operation};
-ghost use Rattle.je_instr.specs.Callee.{CallsSoFar};
 ghost use Rattle.je_instr.specs.Resolves.{Resolves};
-ghost use Rattle.je_instr.specs.Spelling.{FitsInstr};
 ghost use Rattle.je_session.specs.declared.edit.stop.EditStop.TheVariants as stops;
 ghost use Rattle.je_session.specs.Chosen.{fits};
+ghost use Rattle.je_session.specs.Kept.{IsSoFar};
 ghost use Rattle.je_session.specs.Splice.{static_call, chosen_fragment, AreChosen};
 
 use crate::edit::stop::EditStop;
@@ -37,14 +37,13 @@ fn fragment_for(rules: &[Rule], class_name: &Text, member: &Text) -> Option<Frag
 
 /// The fragment that the rules choose for an instruction.
 ///
-/// `NotYet`: it is none that is read so far, or calls what may not be called.
+/// `NotYet`: it is none that is edited so far, or calls what may not be called.
 fn choose_one(consts: &Consts, instr: &Instr, rules: &[Rule]) -> Result<Option<Fragment>, EditStop>
     ensures chosen { IfOk result (λ choice. (operation : Operation)
         × Resolves consts.now instr.now operation
         × (choice ≡ chosen_fragment rules.now operation)) }
-    ensures calls { IfOk result (λ choice. CallsSoFar consts.now instr.now) }
-    ensures not_yet { OnErr result
-        (FitsInstr instr.now → CallsSoFar consts.now instr.now → ⊥) }
+    ensures so_far { OnOk result (IsSoFar consts.now instr.now) }
+    ensures not_yet { OnErr result (IsSoFar consts.now instr.now → ⊥) }
 {
     // The law of the layer below that the proof stands on.
     opcodes_mean();
@@ -64,7 +63,7 @@ fn choose_one(consts: &Consts, instr: &Instr, rules: &[Rule]) -> Result<Option<F
 ///
 /// # Errors
 ///
-/// `NotYet`: one is none that is read so far, or calls what may not be called.
+/// `NotYet`: one is none that is edited so far, or calls what may not be called.
 pub fn choose(
     alloc: Global,
     consts: &Consts,
@@ -72,8 +71,8 @@ pub fn choose(
     rules: &[Rule],
 ) -> Result<Items<Option<Fragment>>, EditStop>
     ensures chosen { IfOk result (AreChosen consts.now rules.now instrs.now) }
-    ensures not_yet { IfErr result (λ e. e ≡ stops.NotYet → AllByRecursion FitsInstr instrs.now
-        → AllByRecursion (CallsSoFar consts.now) instrs.now → ⊥) }
+    ensures not_yet { IfErr result (λ e. e ≡ stops.NotYet
+        → AllByRecursion (IsSoFar consts.now) instrs.now → ⊥) }
 {
     let mut chosen = Vec::new(alloc);
     for instr in instrs {

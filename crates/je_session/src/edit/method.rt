@@ -6,15 +6,15 @@ ghost use Rattle.je_session.specs.ClassEdit.{IsPlanEdit, plan_edit};
 ghost use Rattle.je_session.specs.Kept.{MethodForm};
 
 use crate::edit::chosen::{choose, count_chosen};
+use crate::edit::code::new_code;
 use crate::edit::editable::find_editable;
-use crate::edit::splice::splice;
 use crate::edit::stop::EditStop;
+use crate::laws::one_program;
 use crate::plan::MethodPlan;
 use je_base::Run;
-use je_class::ClassFile;
-use je_instr::{MethodCode, one_program, opcodes_mean, write_code};
+use je_class::{ClassFile, MOST_BYTES};
+use je_instr::opcodes_mean;
 use je_machine::{actions_do, machine_runs};
-use sqlite_items::Items;
 use std::alloc::Global;
 
 /// Edits the method of the plan, and tells how many expressions its rules chose.
@@ -37,32 +37,30 @@ pub fn edit_method(
         e ≡ stops.NotYet → MethodForm class.old plan.now.name → ⊥) }
     ensures err { OnErr result (class.new ≡ class.old) }
 {
-    // The laws of the layers below that the proof stands on.
+    // The laws that the proof stands on.
     actions_do();
     machine_runs();
     opcodes_mean();
     one_program();
 
     let editable = find_editable(alloc, class, &plan.name)?;
-    let code = editable.code;
+    let code = &editable.code;
     let chosen = choose(
         alloc,
         class.consts(),
-        code.instrs.as_slice(),
+        code.decoded.program.instrs.as_slice(),
         plan.rules.as_slice(),
     )?;
     let count = count_chosen(chosen.as_slice());
     if count == 0 {
         return Ok(0);
     }
-    let instrs = splice(alloc, code.instrs.as_slice(), chosen.as_slice())?;
-    let code = MethodCode {
-        max_stack: code.max_stack,
-        max_locals: code.max_locals,
-        instrs: Items::from_vec(instrs),
-    };
-    let bytes = write_code(alloc, &code)?;
+    let bytes = new_code(alloc, class.consts(), code, chosen.as_slice())?;
     let run = Run::of_vec(alloc, bytes)?;
+    // No Code of so many bytes fits a class file that can be read again.
+    if run.len() > MOST_BYTES {
+        return Err(EditStop::Memory);
+    }
     class.set_method_attribute(editable.at, 0, run);
     Ok(count)
 }

@@ -2,10 +2,11 @@
 
 ghost use Rattle.std.specs.Prelude.{◌≡◌};
 ghost use Rattle.je_session.specs.declared.edit.stop.EditStop.TheVariants as stops;
-ghost use Rattle.je_session.specs.Stops.{edit_stop};
+ghost use Rattle.je_session.specs.Stops.{code_stop, size_stop, pool_stop};
 
 use je_base::Memory;
-use je_instr::CodeStop;
+use je_consts::PoolStop;
+use je_instr::{CodeFault, SizeFault};
 use std::alloc::{AllocError, AllocFailed};
 
 /// Why a method was not edited.
@@ -41,13 +42,35 @@ impl From<Memory> for EditStop {
     }
 }
 
-impl From<CodeStop> for EditStop {
-    ghost from_gives = { λ stop e. e ≡ edit_stop stop };
+impl From<CodeFault> for EditStop {
+    ghost from_gives = { λ fault e. e ≡ code_stop fault };
 
-    fn from(stop: CodeStop) -> EditStop {
+    fn from(fault: CodeFault) -> EditStop {
+        match fault {
+            CodeFault::Memory => EditStop::Memory,
+            _ => EditStop::NotYet,
+        }
+    }
+}
+
+impl From<SizeFault> for EditStop {
+    ghost from_gives = { λ fault e. e ≡ size_stop fault };
+
+    fn from(fault: SizeFault) -> EditStop {
+        match fault {
+            SizeFault::Memory => EditStop::Memory,
+            _ => EditStop::NotYet,
+        }
+    }
+}
+
+impl From<PoolStop> for EditStop {
+    ghost from_gives = { λ stop e. e ≡ pool_stop stop };
+
+    fn from(stop: PoolStop) -> EditStop {
         match stop {
-            CodeStop::NotYet => EditStop::NotYet,
-            CodeStop::Memory => EditStop::Memory,
+            PoolStop::Memory => EditStop::Memory,
+            _ => EditStop::NotYet,
         }
     }
 }

@@ -4,7 +4,7 @@ use Rattle.je_base.specs.Bytes.{u2}
 use Rattle.je_code.specs.declared.named.Named.{Named}
 use Rattle.je_code.specs.Code.{spelled}
 use Rattle.je_code.specs.Writing.{AreSound, head_parts}
-use Rattle.je_code.specs.Written.{map_of, tables_of}
+use Rattle.je_code.specs.Named.{map_of, tables_of}
 use Rattle.je_code.proofs.BackLemmas.{read_back}
 use Rattle.je_code.proofs.WrittenLemmas.{is_written, few_tables}
 use Rattle.je_code.proofs.writing.write_code.Goals as goal

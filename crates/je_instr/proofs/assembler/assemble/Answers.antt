@@ -2,9 +2,11 @@ use Rattle.std.proofs.Common.{◌≡◌, ◌++◌, map, min, inl, inr, sym, ap, 
 use Rattle.je_instr.specs.declared.assembled.SizeFault.TheVariants.{CodeTooLong}
 use Rattle.std.specs.List.{AllByRecursion}
 use Rattle.je_instr.specs.Offsets.{HasWidths}
-use Rattle.je_instr.specs.Assembling.{raw_handler, AreNear, IsFirstFar, IsSizeFault, too_long, too_far}
+use Rattle.je_instr.specs.Assembling.{raw_handler, AreNear, IsFirstFar, IsSizeFault, too_long}
+use Rattle.je_instr.specs.Assembling.{too_far}
 use Rattle.je_instr.specs.Shortest.{short_end, short_offsets, short_code}
-use Rattle.je_instr.proofs.SizeLemmas.{some_offset, short_offset, targets_there, handlers_there, one_fault, no_fault}
+use Rattle.je_instr.proofs.SizeLemmas.{some_offset, short_offset, targets_there, handlers_there}
+use Rattle.je_instr.proofs.SizeLemmas.{one_fault, no_fault}
 use Rattle.je_instr.proofs.AssembleLemmas.{decodes}
 use Rattle.je_instr.proofs.assembler.assemble.Goals as goal
 

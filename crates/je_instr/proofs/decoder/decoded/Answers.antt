@@ -1,7 +1,8 @@
 use Rattle.std.proofs.Common.{length, arith}
 use Rattle.std.proofs.lemmas.Result.{err_from_is_err_and}
 use Rattle.je_instr.proofs.FollowLemmas.{begins_within, as_many, few}
-use Rattle.je_instr.proofs.DecodeLemmas.{starts_apart, stops_fault, nowhere_fault, no_entry_fault, decoded_is}
+use Rattle.je_instr.proofs.DecodeLemmas.{starts_apart, stops_fault, nowhere_fault, no_entry_fault}
+use Rattle.je_instr.proofs.DecodeLemmas.{decoded_is}
 use Rattle.je_instr.proofs.decoder.decoded.Goals as goal
 
 pub returns-in_err-located-clause-fault : goal.returns-in_err-located-clause-fault
@@ -39,9 +40,9 @@ entries-requires-clause-short c =
 pub returns-in_err-handlers-clause-fault : goal.returns-in_err-handlers-clause-fault
 returns-in_err-handlers-clause-fault c =
     let p = err_from_is_err_and c.from_residual-in_err-handlers.result c.from_residual-in_err-handlers.ensures.1 in
-    rw (p.1, p.2) (no_entry_fault c.args.consts.now c.args.code.now c.args.table.now c.in_ok-located.located.items c.in_ok-located.starts.items c.in_ok-located.ensures.found c.in_ok-instrs.instrs.items (rw (c.deref-2.ensures.value, c.deref-4.ensures.value) at c.in_ok-instrs.ensures.found) _ (rw c.deref-5.ensures.value at c.in_err-handlers.ensures.fault))
+    rw (p.1, p.2) (no_entry_fault c.args.consts.now c.args.code.now c.args.table.now c.in_ok-located.located.items c.in_ok-located.starts.items c.in_ok-located.ensures.found c.in_ok-instrs.instrs.items (rw (c.deref-2.ensures.value, c.deref-4.ensures.value) at c.in_ok-instrs.ensures.found) _ (rw (c.deref-5.ensures.value, c.new.ensures) at c.in_err-handlers.ensures.fault))
 
 pub returns-clause-found : goal.returns-clause-found
 returns-clause-found c =
     rw (c.from_vec.ensures, c.from_vec-2.ensures, c.from_vec-3.ensures, c.in_ok-push.ensures.items)
-    (decoded_is c.args.consts.now c.args.code.now c.args.table.now c.in_ok-located.located.items c.in_ok-located.starts.items c.in_ok-located.ensures.found c.in_ok-instrs.instrs.items c.in_ok-handlers.handlers.items (rw (c.deref-2.ensures.value, c.deref-4.ensures.value) at c.in_ok-instrs.ensures.found) (rw c.deref-5.ensures.value at c.in_ok-handlers.ensures.found))
+    (decoded_is c.args.consts.now c.args.code.now c.args.table.now c.in_ok-located.located.items c.in_ok-located.starts.items c.in_ok-located.ensures.found c.in_ok-instrs.instrs.items c.in_ok-handlers.handlers.items (rw (c.deref-2.ensures.value, c.deref-4.ensures.value) at c.in_ok-instrs.ensures.found) (rw (c.deref-5.ensures.value, c.new.ensures) at c.in_ok-handlers.ensures.found))

@@ -1,4 +1,5 @@
-use Rattle.je_instr.proofs.ContentLemmas.{each_means, class_means, string_means, member_means, pair_means, type_means, handle_means, dynamic_means}
+use Rattle.je_instr.proofs.ContentLemmas.{each_means, class_means, string_means, member_means}
+use Rattle.je_instr.proofs.ContentLemmas.{pair_means, type_means, handle_means, dynamic_means}
 use Rattle.je_instr.proofs.laws.constants_mean.Goals as goal
 
 pub returns-clause-each : goal.returns-clause-each

@@ -1,4 +1,5 @@
-use Rattle.je_instr.proofs.OperandLemmas.{int_is, float_is, string_is, class_is, long_is, double_is, no_long, no_int}
+use Rattle.je_instr.proofs.OperandLemmas.{int_is, float_is, string_is, class_is, long_is, double_is}
+use Rattle.je_instr.proofs.OperandLemmas.{no_long, no_int}
 use Rattle.je_instr.proofs.operands.loads_mean.Goals as goal
 
 pub returns-clause-int : goal.returns-clause-int

@@ -1,4 +1,5 @@
-use Rattle.je_instr.proofs.OperandLemmas.{field_is, interface_is, no_constructor, array_is, arrays_are, keys_are}
+use Rattle.je_instr.proofs.OperandLemmas.{field_is, interface_is, no_constructor, array_is}
+use Rattle.je_instr.proofs.OperandLemmas.{arrays_are, keys_are}
 use Rattle.je_instr.proofs.operands.members_mean.Goals as goal
 
 pub returns-clause-field : goal.returns-clause-field

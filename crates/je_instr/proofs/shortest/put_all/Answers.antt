@@ -12,12 +12,7 @@ put_instr-requires-clause-short c =
     let r = room c.loop-instr.at c.in-Some.instr.now c.in-Some.tail.now c.loop-instr.rest.now _ c.in-Some.ensures.cases.0 c.loop-instr.invariant.end in
     omega (arith, r, c.requires.short)
 
-pub overflow_cast-at : goal.overflow_cast-at
-overflow_cast-at c =
-    let r = room c.loop-instr.at c.in-Some.instr.now c.in-Some.tail.now c.loop-instr.rest.now _ c.in-Some.ensures.cases.0 c.loop-instr.invariant.end in
-    omega (arith, r, c.requires.short, c.short_size.ensures.size)
-
-pub overflow_add-at : goal.overflow_add-at
-overflow_add-at c =
+pub plus-at-requires : goal.plus-at-requires
+plus-at-requires c =
     let r = room c.loop-instr.at c.in-Some.instr.now c.in-Some.tail.now c.loop-instr.rest.now _ c.in-Some.ensures.cases.0 c.loop-instr.invariant.end in
     omega (arith, r, c.requires.short, c.short_size.ensures.size)

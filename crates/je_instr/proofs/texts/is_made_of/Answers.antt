@@ -1,7 +1,8 @@
 use Rattle.std.proofs.Common.{length, ◌≤◌, arith}
 use Rattle.std.proofs.lemmas.Bool.{leb-true, le-leb}
 use Rattle.je_instr.specs.OpcodeTests.{brackets}
-use Rattle.je_instr.proofs.TextLemmas.{made_of_class, class_made_of, made_of_array, array_made_of, refuted}
+use Rattle.je_instr.proofs.TextLemmas.{made_of_class, class_made_of, made_of_array, array_made_of}
+use Rattle.je_instr.proofs.TextLemmas.{refuted}
 use Rattle.je_instr.proofs.texts.is_made_of.Goals as goal
 
 pub returns-then-is_class_name : goal.returns-then-is_class_name
