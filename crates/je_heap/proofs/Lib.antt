@@ -1,0 +1,4 @@
+pub mod KeyLemmas
+pub mod PutLemmas
+pub mod ArrayLemmas
+pub mod ThrowLemmas

@@ -1,0 +1,11 @@
+pub mod OrderLemmas
+pub mod FlowLemmas
+pub mod LeastLemmas
+pub mod CanonicalLemmas
+pub mod FormLemmas
+pub mod NameLemmas
+pub mod TypeLemmas
+pub mod EntryLemmas
+pub mod JoinLemmas
+pub mod DecidedLemmas
+pub mod WalkLemmas

@@ -1,0 +1,12 @@
+pub mod Slot
+pub mod Shape
+pub mod Canonical
+pub mod Joined
+pub mod Flow
+pub mod Entry
+pub mod Serves
+pub mod Least
+pub mod Views
+pub mod Sample
+pub mod Sorts
+pub mod Inserted

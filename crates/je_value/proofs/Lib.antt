@@ -1,0 +1,5 @@
+pub mod OperandLemmas
+pub mod AdmissionLemmas
+pub mod ArithmeticLemmas
+pub mod ReadingLemmas
+pub mod MethodLemmas

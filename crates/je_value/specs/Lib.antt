@@ -1,0 +1,15 @@
+pub mod Kind
+pub mod Content
+pub mod Value
+pub mod Condition
+pub mod Calculation
+pub mod FieldType
+pub mod FieldTypeCode
+pub mod Action
+pub mod ActionCode
+pub mod Basic
+pub mod BasicCode
+pub mod Operation
+pub mod OperationCode
+pub mod ProgramCode
+pub mod Reading

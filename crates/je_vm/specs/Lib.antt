@@ -1,0 +1,4 @@
+pub mod Acting
+pub mod Frame
+pub mod FrameCode
+pub mod Machine
