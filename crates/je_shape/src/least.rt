@@ -5,7 +5,8 @@ ghost use Rattle.je_machine.specs.Operation.{Operation, Do, Nop, Drop, Return};
 ghost use Rattle.je_shape.specs.Shape.{Shape, Has, Broken, KnownBelow};
 ghost use Rattle.je_shape.specs.Canonical.{IsCanonical};
 ghost use Rattle.je_shape.specs.Flow.{shape_of, flow};
-ghost use Rattle.je_shape.specs.Least.{Method, Assignment, IsLeast, IsClosed, IsFault, IsFirstFault};
+ghost use Rattle.je_shape.specs.Least.{Method, Assignment, IsLeast, IsClosed, IsFault};
+ghost use Rattle.je_shape.specs.Least.{IsFirstFault};
 ghost use Rattle.je_shape.specs.Least.{Passes, Serves, Sends, caught};
 ghost use Rattle.je_shape.specs.Sample.{plain_method, at_two};
 
