@@ -36,7 +36,7 @@ fn is_invoke(consts: &Consts, opcode: u8, index: u16) -> bool
 }
 
 /// Whether the instruction may have its operands, wherever it leads.
-pub(crate) fn is_allowed(consts: &Consts, instr: &Instr) -> bool
+pub fn is_allowed(consts: &Consts, instr: &Instr) -> bool
     ensures { IsTrue result ↔ IsAllowed consts.now instr.now }
 {
     match instr {

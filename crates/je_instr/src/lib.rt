@@ -33,6 +33,7 @@ mod texts;
 mod walk;
 
 pub use again::decoded_again;
+pub use allowed::is_allowed;
 pub use assembled::{Assembled, SizeFault};
 pub use assembler::assemble;
 pub use callee::called_method;
