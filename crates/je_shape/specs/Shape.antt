@@ -30,6 +30,11 @@ pub record ShapeBelow (s t : Shape) : Type 0 where
   pub stack : StackBelow s.stack t.stack
   pub locals : LocalsBelow s.locals t.locals
 
+-- shapes that say the same: names may come in another order, and Top may end the local variables
+pub record AreAlike (s t : Shape) : Type 0 where
+  pub below : ShapeBelow s t
+  pub above : ShapeBelow t s
+
 -- What is known of an index: that nothing comes to it, a shape, or that what comes to it has no
 -- shape.
 pub data Known : Type 0 where

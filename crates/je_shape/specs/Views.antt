@@ -1,5 +1,5 @@
 -- The slots and shapes of the program, as those that the definitions speak of.
-use Rattle.std.specs.Prelude.{[], map}
+use Rattle.std.specs.Prelude.{ℕ, List, [], map, Option, option_map}
 use Rattle.je_shape.specs.declared.slot.Slot.{Slot}
 use Rattle.je_shape.specs.declared.slot.Slot.TheVariants as slots
 use Rattle.je_shape.specs.declared.slot.Shape.{Shape}
@@ -21,3 +21,11 @@ slot_seen (slots.Ref names) = known.Reference names
 
 abbrev pub shape_seen : Shape → known_shape.Shape
 shape_seen s = shape_of (map slot_seen s.stack) (map slot_seen s.locals)
+
+-- of each instruction, and none where it is not reached
+abbrev pub shapes_seen : List (Option Shape) → List (Option known_shape.Shape)
+shapes_seen list = map (option_map shape_seen) list
+
+-- slots with the kinds in which they are used
+abbrev pub uses_seen : List (ℕ × Slot) → List (ℕ × known.Slot)
+uses_seen used = map (λ u. (u.0, slot_seen u.1)) used

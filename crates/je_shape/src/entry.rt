@@ -58,7 +58,7 @@ fn descriptor_text(alloc: Global, t: &JType) -> Result<Text, Memory>
 }
 
 /// A reference to an object of a class.
-fn reference(alloc: Global, name: Text) -> Result<Slot, Memory>
+pub(crate) fn reference(alloc: Global, name: Text) -> Result<Slot, Memory>
     ensures { IfOk result (λ slot. slot_seen slot ≡ Reference (name ∷ [])) }
 {
     let names = Names::of(alloc, name)?;

@@ -3,6 +3,7 @@
 ghost use Rattle.std.specs.Prelude.{◌≡◌, IfOk, map, option_map};
 ghost use Rattle.je_shape.specs.Joined.{IsSlotJoin, IsItemJoin, IsLocalsJoin, IsStackJoin};
 ghost use Rattle.je_shape.specs.Joined.{IsShapeJoin};
+ghost use Rattle.je_shape.specs.Flow.{shape_of};
 ghost use Rattle.je_shape.specs.Views.{slot_seen, shape_seen};
 
 use crate::names::union;
@@ -111,6 +112,30 @@ pub fn join_stacks(alloc: Global, a: &[Slot], b: &[Slot]) -> Result<Option<Vec<S
     }
 }
 
+/// What the shape of a stack and local variables has in common with another, or `None` where depths
+/// or items of the stack differ.
+pub(crate) fn join_parts(
+    alloc: Global,
+    stack: &[Slot],
+    locals: &[Slot],
+    there: &Shape,
+) -> Result<Option<Shape>, Memory>
+    ensures { IfOk result (λ shape. IsShapeJoin
+        (shape_of (map slot_seen stack.now) (map slot_seen locals.now)) (shape_seen there.now)
+        (option_map shape_seen shape)) }
+{
+    match join_stacks(alloc, stack, there.stack.as_slice())? {
+        Some(stack) => {
+            let locals = join_locals(alloc, locals, there.locals.as_slice())?;
+            Ok(Some(Shape {
+                stack: Items::from_vec(stack),
+                locals: Items::from_vec(locals),
+            }))
+        }
+        None => Ok(None),
+    }
+}
+
 /// What two shapes have in common, or `None` where depths or items of the stack differ.
 ///
 /// # Errors
@@ -120,14 +145,6 @@ pub fn join_shapes(alloc: Global, a: &Shape, b: &Shape) -> Result<Option<Shape>,
     ensures { IfOk result (λ shape.
         IsShapeJoin (shape_seen a.now) (shape_seen b.now) (option_map shape_seen shape)) }
 {
-    match join_stacks(alloc, a.stack.as_slice(), b.stack.as_slice())? {
-        Some(stack) => {
-            let locals = join_locals(alloc, a.locals.as_slice(), b.locals.as_slice())?;
-            Ok(Some(Shape {
-                stack: Items::from_vec(stack),
-                locals: Items::from_vec(locals),
-            }))
-        }
-        None => Ok(None),
-    }
+    let shape = join_parts(alloc, a.stack.as_slice(), a.locals.as_slice(), b)?;
+    Ok(shape)
 }

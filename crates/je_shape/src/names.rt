@@ -49,6 +49,19 @@ impl Names {
         Names { list }
     }
 
+    /// The same names once more. No byte is copied.
+    ///
+    /// # Errors
+    ///
+    /// `Memory` where memory runs out.
+    pub fn copy(&self) -> Result<Names, Memory>
+        ensures { IfOk result (λ names. names ≡ self.now) }
+    {
+        let mut list = Vec::with_capacity(*self.list.allocator(), self.list.len())?;
+        push_all(&mut list, &self.list)?;
+        Ok(Names { list })
+    }
+
     /// The names.
     pub fn as_slice(&self) -> &[Text]
         ensures names { result.now ≡ self.now }
