@@ -1,0 +1,4 @@
+pub mod ConstLemmas
+pub mod FormedLemmas
+pub mod EntryLemmas
+pub mod SampleLemmas

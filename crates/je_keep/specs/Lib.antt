@@ -1,0 +1,2 @@
+pub mod MethodCode
+pub mod Sample

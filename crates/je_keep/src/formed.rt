@@ -1,0 +1,30 @@
+//! Programs that code is.
+
+ghost use Rattle.std.specs.Prelude.{ℕ, List, length, Bool};
+ghost use Rattle.std.specs.List.{AllByRecursion};
+ghost use Rattle.je_consts.specs.declared.place.Place.{Place};
+ghost use Rattle.je_consts.specs.Pool.{IsPool};
+ghost use Rattle.je_machine.specs.Operation.{Program};
+ghost use Rattle.je_instr.specs.declared.program.RawHandler.{RawHandler};
+ghost use Rattle.je_instr.specs.CodeProgram.{CodeProgram};
+ghost use Rattle.je_fit.specs.Sound.{IsWellFormed};
+ghost use Rattle.je_keep.specs.MethodCode.{StaysWithin};
+
+use je_instr::decoded_again;
+
+/// What the code of a method is decoded to keeps to the static constraints on code (JVMS 4.9.1) as
+/// far as shapes rest on them.
+pub fn code_is_well_formed()
+    // Each constant that is pushed is one of its type, each array that is made is an array, and
+    // each handler is within the code (JVMS 4.7.3).
+    ensures formed { (consts : List Place) (is_static : Bool) (text code : List ℕ)
+        (table : List RawHandler) (p : Program) → IsPool consts
+        → CodeProgram consts is_static text code table p → IsWellFormed p }
+    // So is the target of each jump.
+    ensures targets { (consts : List Place) (is_static : Bool) (text code : List ℕ)
+        (table : List RawHandler) (p : Program) → CodeProgram consts is_static text code table p
+        → AllByRecursion (StaysWithin (length p.operations)) p.operations }
+{
+    // The law that the proof stands on.
+    decoded_again();
+}
