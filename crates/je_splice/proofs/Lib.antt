@@ -1,0 +1,12 @@
+pub mod ComesLemmas
+pub mod EmbedsLemmas
+pub mod LayoutLemmas
+pub mod CatcherLemmas
+pub mod LaidLemmas
+pub mod MarksLemmas
+pub mod BlockLemmas
+pub mod SplicedLemmas
+pub mod InsideLemmas
+pub mod LoopLemmas
+pub mod AlikeLemmas
+pub mod MappedLemmas

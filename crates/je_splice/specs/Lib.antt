@@ -1,0 +1,13 @@
+pub mod Block
+pub mod Stretch
+pub mod Means
+pub mod Comes
+pub mod Reference
+pub mod Embeds
+pub mod Layout
+pub mod Laid
+pub mod Marks
+pub mod Sample
+pub mod Loop
+pub mod Mapped
+pub mod Put
