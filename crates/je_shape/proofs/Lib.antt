@@ -9,14 +9,3 @@ pub mod EntryLemmas
 pub mod JoinLemmas
 pub mod DecidedLemmas
 pub mod WalkLemmas
-pub mod TestLemmas
-pub mod ArriveLemmas
-pub mod SearchLemmas
-pub mod LostLemmas
-pub mod FaultLemmas
-pub mod StepLemmas
-pub mod SlotLemmas
-pub mod MakingLemmas
-pub mod ClassLemmas
-pub mod AlikeLemmas
-pub mod WantLemmas

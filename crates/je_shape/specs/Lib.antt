@@ -10,14 +10,3 @@ pub mod Views
 pub mod Sample
 pub mod Sorts
 pub mod Inserted
-pub mod Agreeing
-pub mod Knowns
-pub mod Arriving
-pub mod Answer
-pub mod Searching
-pub mod Leading
-pub mod Lost
-pub mod Losing
-pub mod Plans
-pub mod Seen
-pub mod Alike

@@ -1,4 +1,4 @@
--- Serves private functions: a slot in the three ways that its order sees.
+-- A slot in the three ways that its order sees.
 use Rattle.je_shape.specs.declared.view.Word.{Word}
 use Rattle.je_shape.specs.declared.view.Word.TheVariants as words
 use Rattle.je_shape.specs.declared.view.View.{View}

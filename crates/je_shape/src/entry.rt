@@ -58,7 +58,11 @@ fn descriptor_text(alloc: Global, t: &JType) -> Result<Text, Memory>
 }
 
 /// A reference to an object of a class.
-pub(crate) fn reference(alloc: Global, name: Text) -> Result<Slot, Memory>
+///
+/// # Errors
+///
+/// `Memory` where memory runs out.
+pub fn reference(alloc: Global, name: Text) -> Result<Slot, Memory>
     ensures { IfOk result (λ slot. slot_seen slot ≡ Reference (name ∷ [])) }
 {
     let names = Names::of(alloc, name)?;

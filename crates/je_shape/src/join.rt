@@ -33,7 +33,8 @@ pub fn join_items(alloc: Global, a: &Slot, b: &Slot) -> Result<Option<Slot>, Mem
         }
         (View::Names(m), View::Names(n)) => {
             let names = union(alloc, m, n)?;
-            Ok(Some(of_names(names)))
+            let slot = of_names(alloc, names)?;
+            Ok(Some(slot))
         }
         _ => Ok(None),
     }
@@ -114,7 +115,11 @@ pub fn join_stacks(alloc: Global, a: &[Slot], b: &[Slot]) -> Result<Option<Vec<S
 
 /// What the shape of a stack and local variables has in common with another, or `None` where depths
 /// or items of the stack differ.
-pub(crate) fn join_parts(
+///
+/// # Errors
+///
+/// `Memory` where memory runs out.
+pub fn join_parts(
     alloc: Global,
     stack: &[Slot],
     locals: &[Slot],

@@ -9,11 +9,12 @@ use je_base::{Memory, Text};
 use std::alloc::Global;
 use std::cmp::Ordering;
 use std::marker::Model;
+use std::rc::Rc;
 
-/// Names of classes, in order of their bytes, each once.
+/// Names of classes, in order of their bytes, each once. Copies share the list.
 #[derive(Debug, Drop)]
 pub struct Names {
-    list: Vec<Text>,
+    list: Rc<Vec<Text>>,
 }
 
 impl Model for Names {
@@ -22,9 +23,9 @@ impl Model for Names {
 
     ghost Value = { List (List ℕ) };
 
-    ghost view = { λ names. names.list.items };
+    ghost view = { λ names. names.list.value.items };
 
-    ghost invariant = { λ names. IsCanonicalNames names.list.items };
+    ghost invariant = { λ names. IsCanonicalNames names.list.value.items };
 }
 
 impl Names {
@@ -38,18 +39,19 @@ impl Names {
     {
         let mut list = Vec::new(alloc);
         list.push(name)?;
-        Ok(Names { list })
+        Names::of_sorted(alloc, list)
     }
 
     /// The set of names that are in order already.
-    pub(crate) fn of_sorted(list: Vec<Text>) -> Names
+    pub(crate) fn of_sorted(alloc: Global, list: Vec<Text>) -> Result<Names, Memory>
         requires { IsCanonicalNames list.items }
-        ensures { result ≡ list.items }
+        ensures { IfOk result (λ names. names ≡ list.items) }
     {
-        Names { list }
+        let list = Rc::new(alloc, list)?;
+        Ok(Names { list })
     }
 
-    /// The same names once more. No byte is copied.
+    /// The same names once more. Nothing is copied.
     ///
     /// # Errors
     ///
@@ -57,8 +59,7 @@ impl Names {
     pub fn copy(&self) -> Result<Names, Memory>
         ensures { IfOk result (λ names. names ≡ self.now) }
     {
-        let mut list = Vec::with_capacity(*self.list.allocator(), self.list.len())?;
-        push_all(&mut list, &self.list)?;
+        let list = self.list.clone()?;
         Ok(Names { list })
     }
 
@@ -67,7 +68,7 @@ impl Names {
         ensures names { result.now ≡ self.now }
         ensures sorted { IsCanonicalNames result.now }
     {
-        &self.list
+        self.list.as_slice()
     }
 }
 
@@ -107,7 +108,11 @@ fn with_name(alloc: Global, names: &[Text], name: &Text) -> Result<Vec<Text>, Me
 }
 
 /// The names of both sets, in order.
-pub(crate) fn union(alloc: Global, a: &[Text], b: &[Text]) -> Result<Vec<Text>, Memory>
+///
+/// # Errors
+///
+/// `Memory` where memory runs out.
+pub fn union(alloc: Global, a: &[Text], b: &[Text]) -> Result<Vec<Text>, Memory>
     requires { IsCanonicalNames a.now }
     ensures names { IfOk result (λ all. IsUnion a.now b.now all.items) }
     ensures sorted { IfOk result (λ all. IsCanonicalNames all.items) }

@@ -64,7 +64,7 @@ impl Slot {
 /// # Errors
 ///
 /// `Memory` where memory runs out.
-pub(crate) fn copy_slots(alloc: Global, slots: &[Slot]) -> Result<Items<Slot>, Memory>
+pub fn copy_slots(alloc: Global, slots: &[Slot]) -> Result<Items<Slot>, Memory>
     ensures { IfOk result (λ copies. copies ≡ slots.now) }
 {
     let mut copies = Vec::with_capacity(alloc, slots.len())?;

@@ -1,6 +1,6 @@
 //! A slot as the order of slots sees it: in three ways.
 
-ghost use Rattle.std.specs.Prelude.{◌≡◌};
+ghost use Rattle.std.specs.Prelude.{◌≡◌, IfOk};
 ghost use Rattle.je_shape.specs.Slot.{Is, Reference};
 ghost use Rattle.je_shape.specs.Canonical.{IsCanonicalSlot, IsCanonicalNames};
 ghost use Rattle.je_shape.specs.Views.{slot_seen};
@@ -8,29 +8,35 @@ ghost use Rattle.je_shape.specs.Sorts.{word_seen, view_seen};
 
 use crate::names::Names;
 use crate::slot::Slot;
-use je_base::Text;
+use je_base::{Memory, Text};
+use std::alloc::Global;
 
-/// What is like nothing but itself.
+/// What is like nothing but itself (JVMS 4.10.1.2).
 #[derive(Clone, Copy, Debug, PartialEq, Eq)]
-pub(crate) enum Word {
+pub enum Word {
     Int,
     Float,
     Long,
     Double,
+    /// `this` of a constructor, before it has called another one.
     UninitThis,
+    /// What the `new` at this index made, before a constructor is called on it.
     Uninit(u32),
 }
 
-/// A slot in three ways; null has no names.
+/// A slot in three ways.
 #[derive(Clone, Copy)]
-pub(crate) enum View<'a> {
+pub enum View<'a> {
+    /// Nothing that can be used.
     Unused,
+    /// A word.
     Alone(Word),
+    /// A reference to an object of one of these classes, or null, which has no names.
     Names(&'a [Text]),
 }
 
 /// The slot as one of the three.
-pub(crate) fn seen(slot: &Slot) -> View<'_>
+pub fn seen(slot: &Slot) -> View<'_>
     ensures same { view_seen result ≡ slot_seen slot.now }
     ensures canonical { IsCanonicalSlot (view_seen result) }
 {
@@ -62,12 +68,17 @@ pub(crate) fn of_word(word: Word) -> Slot
 }
 
 /// The reference with these names, which is null where there are none.
-pub(crate) fn of_names(list: Vec<Text>) -> Slot
+///
+/// # Errors
+///
+/// `Memory` where memory runs out.
+pub fn of_names(alloc: Global, list: Vec<Text>) -> Result<Slot, Memory>
     requires { IsCanonicalNames list.items }
-    ensures { slot_seen result ≡ Reference list.items }
+    ensures { IfOk result (λ slot. slot_seen slot ≡ Reference list.items) }
 {
     if list.is_empty() {
-        return Slot::Null;
+        return Ok(Slot::Null);
     }
-    Slot::Ref(Names::of_sorted(list))
+    let names = Names::of_sorted(alloc, list)?;
+    Ok(Slot::Ref(names))
 }

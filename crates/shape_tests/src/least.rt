@@ -1,5 +1,6 @@
 use je_base::Text;
-use je_shape::{Shape, ShapeFault, Shapes, Slot, least_shapes, lost};
+use je_least::{ShapeFault, Shapes, least_shapes, lost};
+use je_shape::{Shape, Slot};
 use je_value::{
     Basic, BasicForm, Condition, Kind, KindForm, Operation, OperationForm, Program, Value,
     ValueForm,

@@ -1,0 +1,7 @@
+use Rattle.std.proofs.Common.{◌≡◌, map, take}
+use Rattle.je_shape.specs.Flow.{forgot}
+use Rattle.je_shape.specs.Views.{slot_seen}
+use Rattle.je_flow.proofs.making.forgot_all.Given as goal
+
+abbrev pub invariant-loop-slot : goal.invariant-loop-slot
+invariant-loop-slot l = map slot_seen l.all.items ≡ map (forgot l.at) (map slot_seen (take l.slot-index l.locals))

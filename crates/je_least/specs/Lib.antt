@@ -1,0 +1,9 @@
+pub mod Agreeing
+pub mod Knowns
+pub mod Arriving
+pub mod Answer
+pub mod Searching
+pub mod Leading
+pub mod Lost
+pub mod Losing
+pub mod Plans

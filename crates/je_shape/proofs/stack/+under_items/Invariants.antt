@@ -1,4 +1,0 @@
-use Rattle.je_shape.proofs.stack.+under_items.Given as goal
-
-abbrev pub decreases-under_items : goal.decreases-under_items
-decreases-under_items l = l.count

@@ -1,5 +1,0 @@
-use Rattle.std.proofs.Common.{length}
-use Rattle.je_shape.proofs.stack.+under_places.Given as goal
-
-abbrev pub decreases-under_places : goal.decreases-under_places
-decreases-under_places l = length l.stack.now
