@@ -1,0 +1,10 @@
+pub mod ReferenceLemmas
+pub mod PlaceLemmas
+pub mod StayLemmas
+pub mod MarkedLemmas
+pub mod ListedLemmas
+pub mod PieceLemmas
+pub mod SplicedLemmas
+pub mod SampleLemmas
+pub mod InnerLemmas
+pub mod ProgramLemmas
