@@ -14,7 +14,7 @@ zip_append R [] (y ∷ ys) us vs h k = absurd h
 zip_append R (x ∷ xs) [] us vs h k = absurd h
 zip_append R (x ∷ xs) (y ∷ ys) us vs h k = (h.0, zip_append R xs ys us vs h.1 k)
 
-zip_map : {A B C D : Type 0} (R : A → B → Type 0) (T : C → D → Type 0) (f : A → C) (g : B → D) → ((x : A) (y : B) → R x y → T (f x) (g y)) → (xs : List A) (ys : List B) → AllZip R xs ys
+pub zip_map : {A B C D : Type 0} (R : A → B → Type 0) (T : C → D → Type 0) (f : A → C) (g : B → D) → ((x : A) (y : B) → R x y → T (f x) (g y)) → (xs : List A) (ys : List B) → AllZip R xs ys
     → AllZip T (map f xs) (map g ys)
 zip_map R T f g each [] [] h = tt
 zip_map R T f g each [] (y ∷ ys) h = absurd h
@@ -27,6 +27,12 @@ zip_length R [] (y ∷ ys) h = absurd h
 zip_length R (x ∷ xs) [] h = absurd h
 zip_length R (x ∷ xs) (y ∷ ys) h = ap suc (zip_length R xs ys h.1)
 
+zip_both : {A B : Type 0} (R S : A → B → Type 0) (xs : List A) (ys : List B) → AllZip R xs ys → AllZip S xs ys → AllZip (λ x y. R x y × S x y) xs ys
+zip_both R S [] [] h k = tt
+zip_both R S [] (y ∷ ys) h k = absurd h
+zip_both R S (x ∷ xs) [] h k = absurd h
+zip_both R S (x ∷ xs) (y ∷ ys) h k = ((h.0, k.0), zip_both R S xs ys h.1 k.1)
+
 zip_cond : {A B : Type 0} (R : A → B → Type 0) (b c : Bool) (x : A) (y : B) (xs : List A) (ys : List B) → b ≡ c → R x y → AllZip R xs ys
     → AllZip R (cond b (x ∷ xs) xs) (cond c (y ∷ ys) ys)
 zip_cond R true true x y xs ys e h k = (h, k)
@@ -34,7 +40,7 @@ zip_cond R true false x y xs ys e h k = absurd cc
 zip_cond R false true x y xs ys e h k = absurd cc
 zip_cond R false false x y xs ys e h k = k
 
-zip_filter : {A B : Type 0} (R : A → B → Type 0) (p : A → Bool) (q : B → Bool) → ((x : A) (y : B) → R x y → p x ≡ q y) → (xs : List A) (ys : List B) → AllZip R xs ys
+pub zip_filter : {A B : Type 0} (R : A → B → Type 0) (p : A → Bool) (q : B → Bool) → ((x : A) (y : B) → R x y → p x ≡ q y) → (xs : List A) (ys : List B) → AllZip R xs ys
     → AllZip R (filter p xs) (filter q ys)
 zip_filter R p q each [] [] h = tt
 zip_filter R p q each [] (y ∷ ys) h = absurd h
@@ -69,12 +75,11 @@ AlikeOptions Q None None = Unit {0}
 AlikeOptions Q (Some x) (Some y) = Q x y
 AlikeOptions Q _ _ = ⊥
 
-pub record AlikeMarks {X Y H G : Type 0} (Q : X → Y → Type 0) (S : H → G → Type 0) (m : Marks X H) (n : Marks Y G) : Type 0 where
+pub record AlikeMarks {X Y H G : Type 0} (Q : X → Y → Type 0) (m : Marks X H) (n : Marks Y G) : Type 0 where
   pub entries : (i : ℕ) → AllZip Q (m.entries i) (n.entries i)
   pub passed : (i : ℕ) → AllZip Q (m.passed i) (n.passed i)
   pub met : (i : ℕ) → AllZip Q (m.met i) (n.met i)
   pub instead : (i : ℕ) → AlikeOptions Q (m.instead i) (n.instead i)
-  pub entry_of : (h : H) (g : G) → S h g → m.entry_of h ≡ n.entry_of g
   pub completes : (x : X) (y : Y) → Q x y → m.completes x ≡ n.completes y
 
 -- ---- layouts
@@ -187,7 +192,7 @@ module _ {A B H G : Type 0} (R : A → B → Type 0) (S : H → G → Type 0) (c
 -- ---- marks
 
 module _ {A B X Y H G : Type 0} (R : A → B → Type 0) (Q : X → Y → Type 0) (S : H → G → Type 0) (codes : Codes A H) (others : Codes B G) (alike : AlikeCodes R S codes others)
-    (m : Marks X H) (n : Marks Y G) (marks : AlikeMarks Q S m n) where
+    (m : Marks X H) (n : Marks Y G) (marks : AlikeMarks Q m n) where
   same_entries : (i : ℕ) → length (m.entries i) ≡ length (n.entries i)
   same_entries i = zip_length Q (m.entries i) (n.entries i) (marks.entries i)
 
@@ -285,14 +290,16 @@ module _ {A B X Y H G : Type 0} (R : A → B → Type 0) (Q : X → Y → Type 0
   same_target : (o p : Option ℕ) (i : ℕ) → o ≡ p → entry_target m o i ≡ entry_target n p i
   same_target o p i e = ap (λ x. entry_target m x i) e ∙ by_entry p i
 
-  alike_handler : (h : H) (g : G) → S h g → S (codes.move (first_of m) (first_of m) (entry_target m (m.entry_of h)) h) (others.move (first_of n) (first_of n) (entry_target n (n.entry_of g)) g)
+  alike_handler : (h : H) (g : G) → S h g × (m.entry_of h ≡ n.entry_of g) → S (codes.move (first_of m) (first_of m) (entry_target m (m.entry_of h)) h) (others.move (first_of n) (first_of n) (entry_target n (n.entry_of g)) g)
   alike_handler h g k =
       subst (λ (first : ℕ → ℕ). S (codes.move (first_of m) (first_of m) (entry_target m (m.entry_of h)) h) (others.move first first (entry_target n (n.entry_of g)) g))
       (same_maps (first_of m) (first_of n) same_first)
       (subst (λ (to : ℕ → ℕ). S (codes.move (first_of m) (first_of m) (entry_target m (m.entry_of h)) h) (others.move (first_of m) (first_of m) to g))
-      (same_maps (entry_target m (m.entry_of h)) (entry_target n (n.entry_of g)) (λ i. same_target (m.entry_of h) (n.entry_of g) i (marks.entry_of h g k)))
-      (alike.move (first_of m) (first_of m) (entry_target m (m.entry_of h)) h g k))
+      (same_maps (entry_target m (m.entry_of h)) (entry_target n (n.entry_of g)) (λ i. same_target (m.entry_of h) (n.entry_of g) i k.1))
+      (alike.move (first_of m) (first_of m) (entry_target m (m.entry_of h)) h g k.0))
 
-  pub marked_handlers_alike : (hs : List H) (gs : List G) → AllZip S hs gs → AllZip S (marked_handlers codes m hs) (marked_handlers others n gs)
-  marked_handlers_alike hs gs k =
-      zip_map S S (λ h. codes.move (first_of m) (first_of m) (entry_target m (m.entry_of h)) h) (λ g. others.move (first_of n) (first_of n) (entry_target n (n.entry_of g)) g) alike_handler hs gs k
+  -- entries that are alike meet the same
+  pub marked_handlers_alike : (hs : List H) (gs : List G) → AllZip S hs gs → AllZip (λ h g. m.entry_of h ≡ n.entry_of g) hs gs → AllZip S (marked_handlers codes m hs) (marked_handlers others n gs)
+  marked_handlers_alike hs gs k e =
+      zip_map (λ h g. S h g × (m.entry_of h ≡ n.entry_of g)) S (λ h. codes.move (first_of m) (first_of m) (entry_target m (m.entry_of h)) h)
+      (λ g. others.move (first_of n) (first_of n) (entry_target n (n.entry_of g)) g) alike_handler hs gs (zip_both S (λ h g. m.entry_of h ≡ n.entry_of g) hs gs k e)

@@ -9,4 +9,15 @@ pub mod SplicedLemmas
 pub mod InsideLemmas
 pub mod LoopLemmas
 pub mod AlikeLemmas
+pub mod InstrLemmas
+pub mod ResolvedLemmas
 pub mod MappedLemmas
+pub mod PutLemmas
+pub mod PieceLemmas
+pub mod LoopCodeLemmas
+pub mod ReplacedLemmas
+pub mod GiveWayLemmas
+pub mod LoopCallLemmas
+pub mod FitLemmas
+pub mod ChoiceLemmas
+pub mod ReplacedFitLemmas

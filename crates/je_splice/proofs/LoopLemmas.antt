@@ -20,7 +20,7 @@ use Rattle.je_splice.proofs.BlockLemmas.{nothing_means, proceed_means}
 use Rattle.je_splice.proofs.InsideLemmas.{stays_inside}
 use Rattle.je_splice.proofs.SplicedLemmas.{spliced_agrees}
 
-at_each : {A : Type 0} (P : A → Type 0) (xs : List A) → AllByRecursion P xs → (i : ℕ) (x : A) → slice_get xs i ≡ Some x → P x
+pub at_each : {A : Type 0} (P : A → Type 0) (xs : List A) → AllByRecursion P xs → (i : ℕ) (x : A) → slice_get xs i ≡ Some x → P x
 at_each P [] each i x is = absurd cc
 at_each P (y ∷ xs) each zero x is = let same : y ≡ x = cc in subst P same each.0
 at_each P (y ∷ xs) each (suc i) x is = at_each P xs each.1 i x is
@@ -50,7 +50,7 @@ fit ok = (
 targets_in : AllByRecursion (HasTargetsIn (inside items)) items
 targets_in = (tt, (tt, (refl, (tt, (tt, (tt, (tt, (tt, (refl, (tt, (tt, (tt, tt))))))))))))
 
-no_return : (item : Item Operation Fragment) → Some (Keeps 0 (Return None)) ≡ Some item → IsTrue (may_lead_on item) → ⊥
+pub no_return : (item : Item Operation Fragment) → Some (Keeps 0 (Return None)) ≡ Some item → IsTrue (may_lead_on item) → ⊥
 no_return item is h =
     let same : Keeps 0 (Return None) ≡ item = cc in
     let wrong : false ≡ true = ap may_lead_on same ∙ h in

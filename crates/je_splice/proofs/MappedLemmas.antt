@@ -60,15 +60,18 @@ module _ {A B H G : Type 0} (f : A → B) (g : H → G) (codes : Codes A H) (oth
     same_option (Some x) None e = absurd cc
     same_option (Some x) (Some y) e = cc
 
-    alike_marks : AlikeMarks (Is x_map) (Is g) m n
+    alike_marks : AlikeMarks (Is x_map) m n
     alike_marks = record {
       entries = λ i. all_are x_map (m.entries i) (n.entries i) (marks.entries i);
       passed = λ i. all_are x_map (m.passed i) (n.passed i) (marks.passed i);
       met = λ i. all_are x_map (m.met i) (n.met i) (marks.met i);
       instead = λ i. same_option (m.instead i) (n.instead i) (marks.instead i);
-      entry_of = λ h k e. marks.entry_of h ∙ ap n.entry_of e;
       completes = λ x y e. marks.completes x ∙ ap n.completes e;
     }
+
+    all_meet : (hs : List H) → AllZip (λ h k. m.entry_of h ≡ n.entry_of k) hs (map g hs)
+    all_meet [] = tt
+    all_meet (h ∷ hs) = (marks.entry_of h, all_meet hs)
 
     same_item : (x : Item A X) (y : Item B Y) → AlikeItems (Is f) (Is x_map) x y → y ≡ mapped_item f x_map x
     same_item (Keeps over a) (Keeps other b) h = ap (λ (k : ℕ). Keeps k b) (sym h.0) ∙ ap (λ c. Keeps over c) (sym h.1)
@@ -91,4 +94,4 @@ module _ {A B H G : Type 0} (f : A → B) (g : H → G) (codes : Codes A H) (oth
     pub marked_mapped : (handlers : List H) → marked_handlers others n (map g handlers) ≡ map g (marked_handlers codes m handlers)
     marked_mapped handlers =
         is_mapped g (marked_handlers codes m handlers) (marked_handlers others n (map g handlers))
-        (marked_handlers_alike (Is f) (Is x_map) (Is g) codes others alike_codes m n alike_marks handlers (map g handlers) (all_mapped g handlers))
+        (marked_handlers_alike (Is f) (Is x_map) (Is g) codes others alike_codes m n alike_marks handlers (map g handlers) (all_mapped g handlers) (all_meet handlers))

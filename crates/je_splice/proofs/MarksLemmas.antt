@@ -62,7 +62,7 @@ module _ {X H : Type 0} (m : Marks X H) where
         let met = ap length (only.met i) in
         omega (arith, entries, passed, met)
 
-    first_alone : (i : ℕ) → first_of m i ≡ i
+    pub first_alone : (i : ℕ) → first_of m i ≡ i
     first_alone zero = ap (λ (xs : List X). lead_width (length xs)) (only.entries 0)
     first_alone (suc i) = omega (arith, first_alone i, one_place i)
 

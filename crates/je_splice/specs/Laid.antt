@@ -60,6 +60,12 @@ FitsItem limit ok (Puts over fragment) =
     BlockMeans limit ok fragment.block fragment.meaning
     × AllByRecursion (λ (h : Handler). h.end ≤ length fragment.block.code) fragment.block.handlers
 
+-- the block does what is meant with any frame, and its entries cover nothing behind it
+pub record FitsAnywhere (limit : ℕ) (fragment : Fragment) : Type 0 where
+  pub means : (ok : Frame → Bool) → BlockMeans limit ok fragment.block fragment.meaning
+  pub within : AllByRecursion (λ (h : Handler). h.end ≤ length fragment.block.code)
+      fragment.block.handlers
+
 -- Each item fits. The test on frames holds at places of the items alone, and each step of the
 -- reference keeps it.
 pub record Fits (limit : ℕ) (ok : ℕ → Frame → Bool) (parameters : List Kind)

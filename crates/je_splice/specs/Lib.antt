@@ -11,3 +11,7 @@ pub mod Sample
 pub mod Loop
 pub mod Mapped
 pub mod Put
+pub mod InstrCodes
+pub mod Resolved
+pub mod Instead
+pub mod LoopCode

@@ -1,5 +1,5 @@
 -- A method with a loop and two handlers, and pieces that are put into it.
-use Rattle.std.specs.Prelude.{ℕ, negsuc, [], ◌∷◌, None, Bool, true, false, codes}
+use Rattle.std.specs.Prelude.{ℕ, negsuc, List, [], ◌∷◌, None, Bool, true, false, codes}
 use Rattle.je_consts.specs.declared.constant.MemberTag.TheVariants.{Method}
 use Rattle.je_machine.specs.Value.{IntKind}
 use Rattle.je_machine.specs.Content.{Member}
@@ -37,23 +37,27 @@ loop_method = record {
   handlers = entry 2 5 7 ∷ entry 0 2 4 ∷ [];
 }
 
-abbrev pub put_at : ℕ → Bool → Bool → Fragment → PutAt Fragment
+abbrev pub put_at : {X : Type 0} → ℕ → Bool → Bool → X → PutAt X
 put_at at removed jumps piece =
     record { at = at; removed = removed; jumps = jumps; piece = piece }
 
 -- one in the way of all entries that lead to the target
-abbrev pub put_before : ℕ → Fragment → PutBefore Fragment Handler
+abbrev pub put_before : {X H : Type 0} → ℕ → X → PutBefore X H
 put_before target piece = record { target = target; meets = λ h. true; piece = piece }
 
 -- A nop stands before the loop, which each turn meets. The first call stays a call, and the second
 -- gives way to nothing. A nop stands before index 4, and jumps pass it by; the handlers that lead
 -- there meet a drop.
+abbrev pub loop_places : List (PutAt Fragment)
+loop_places =
+    put_at 0 false true (proceed_fragment Nop) ∷ put_at 2 true true (proceed_fragment (Act call))
+    ∷ put_at 3 true true empty_fragment ∷ put_at 4 false false (proceed_fragment Nop) ∷ []
+
+abbrev pub loop_entries : List (PutBefore Fragment Handler)
+loop_entries = put_before 4 (proceed_fragment (Drop 1)) ∷ []
+
 abbrev pub loop_marks : Marks Fragment Handler
-loop_marks =
-    marks_of (λ h. h.target) (λ fragment. true)
-    (put_at 0 false true (proceed_fragment Nop) ∷ put_at 2 true true (proceed_fragment (Act call))
-    ∷ put_at 3 true true empty_fragment ∷ put_at 4 false false (proceed_fragment Nop) ∷ [])
-    (put_before 4 (proceed_fragment (Drop 1)) ∷ [])
+loop_marks = marks_of (λ h. h.target) (λ fragment. true) loop_places loop_entries
 
 -- with its pieces in place
 abbrev pub spliced_loop : Program

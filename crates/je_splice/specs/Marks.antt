@@ -1,9 +1,14 @@
 -- Pieces at the indexes of a method's instructions, put in a row with them.
-use Rattle.std.specs.Prelude.{◌≡◌, ℕ, zero, suc, ◌+◌, List, [], ◌∷◌, ◌++◌, length, map, Option}
-use Rattle.std.specs.Prelude.{Some, None, Bool, true, false, IsTrue, slice_get}
-use Rattle.je_machine.specs.Operation.{Handler, Program}
+use Rattle.std.specs.Prelude.{◌≡◌, ℕ, zero, suc, ◌+◌, ◌<◌, List, [], ◌∷◌, ◌++◌, length, map, Option}
+use Rattle.std.specs.Prelude.{Some, None, Bool, true, false, IsTrue, IfSome, slice_get}
+use Rattle.std.specs.List.{AllByRecursion}
+use Rattle.je_machine.specs.Classes.{Classes}
+use Rattle.je_machine.specs.Frame.{Frame}
+use Rattle.je_machine.specs.Machine.{State}
+use Rattle.je_machine.specs.Step.{Goes}
+use Rattle.je_machine.specs.Operation.{Operation, Handler, Program}
 use Rattle.je_splice.specs.Block.{Piece}
-use Rattle.je_splice.specs.Reference.{Reference}
+use Rattle.je_splice.specs.Reference.{Doing, Performs, Means, Reference, take_reference}
 use Rattle.je_splice.specs.Layout.{Codes, operation_codes, Item, Keeps, Puts, next_place}
 use Rattle.je_splice.specs.Layout.{moved_to}
 use Rattle.je_splice.specs.Laid.{Fragment, reference_of, laid}
@@ -48,6 +53,13 @@ pub record OnlyInstead {X H : Type 0} (m : Marks X H) : Type 0 where
   pub entries : (i : ℕ) → m.entries i ≡ []
   pub passed : (i : ℕ) → m.passed i ≡ []
   pub met : (i : ℕ) → m.met i ≡ []
+
+-- each piece that is put is so
+pub record EachPut {X H : Type 0} (P : X → Type 0) (m : Marks X H) : Type 0 where
+  pub entries : (i : ℕ) → AllByRecursion P (m.entries i)
+  pub passed : (i : ℕ) → AllByRecursion P (m.passed i)
+  pub met : (i : ℕ) → AllByRecursion P (m.met i)
+  pub instead : (i : ℕ) → IfSome (m.instead i) P
 
 -- ---- the items
 
@@ -140,3 +152,30 @@ abbrev pub spliced : Program → Marks Fragment Handler → Program
 spliced p m =
     laid p.parameters (marked_items operation_codes m p.operations)
     (marked_handlers operation_codes m p.handlers)
+
+-- what is done at an index where a piece may stand in place of the operation
+abbrev pub doing_at : Option Fragment → Option Operation → Option Doing
+doing_at instead None = None
+doing_at None (Some operation) = Some (Performs operation)
+doing_at (Some fragment) (Some operation) = Some (Means fragment.meaning)
+
+-- The same reference by the method's own indexes, where nothing is put but in the place of
+-- instructions.
+abbrev pub replaced : Program → (ℕ → Option Fragment) → Reference
+replaced p instead =
+    record {
+      parameters = p.parameters;
+      doing = λ i. doing_at (instead i) (slice_get p.operations i);
+      handlers = p.handlers;
+      next = λ i. suc i;
+      home = λ i. i;
+    }
+
+-- A test on frames by the method's own indexes: it holds within the code, and each step of the
+-- reference keeps it.
+pub record IsKeptBy (ok : ℕ → Frame → Bool) (p : Program) (instead : ℕ → Option Fragment) : Type 0
+  where
+    pub inside : (i : ℕ) (frame : Frame) → IsTrue (ok i frame) → i < length p.operations
+    pub kept : (classes : Classes) (bound left : ℕ) (s t : State) → IsTrue (ok s.place s.frame)
+        → take_reference (replaced p instead) classes bound s ≡ Goes left t
+        → IsTrue (ok t.place t.frame)

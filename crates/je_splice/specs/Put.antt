@@ -1,5 +1,6 @@
 -- Marks from lists of what is put, in the order in which it is given.
-use Rattle.std.specs.Prelude.{ℕ, List, map, filter, find, option_map, Bool, not, ◌&&◌, nat_eq}
+use Rattle.std.specs.Prelude.{◌≡◌, ℕ, suc, List, [], ◌∷◌, map, filter, find, Option, Some, None}
+use Rattle.std.specs.Prelude.{option_map, option_and_then, slice_get, Bool, true, not, ◌&&◌, nat_eq}
 use Rattle.std.specs.List.{position}
 use Rattle.je_splice.specs.Marks.{Marks}
 
@@ -41,3 +42,19 @@ marks_of target_of completes places entries =
       entry_of = λ h. position (λ put. put.meets h) (filter (leads_to (target_of h)) entries);
       completes = completes;
     }
+
+-- it stands in the place of an instruction, and jumps meet it
+pub record StandsInstead {X : Type 0} (put : PutAt X) : Type 0 where
+  pub removed : put.removed ≡ true
+  pub jumps : put.jumps ≡ true
+
+-- From a choice for each index on: what is chosen there stands in the place of the instruction.
+abbrev pub replacements : {X : Type 0} → ℕ → List (Option X) → List (PutAt X)
+replacements i [] = []
+replacements i (None ∷ choices) = replacements (suc i) choices
+replacements i (Some x ∷ choices) =
+    record { at = i; removed = true; jumps = true; piece = x } ∷ replacements (suc i) choices
+
+-- what is chosen at an index, if there is one
+abbrev pub chosen_at : {X : Type 0} → List (Option X) → ℕ → Option X
+chosen_at choices i = option_and_then (λ choice. choice) (slice_get choices i)

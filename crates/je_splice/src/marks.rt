@@ -2,17 +2,21 @@
 //! lead, and where throws go.
 
 ghost use Rattle.std.specs.Prelude.{◌≡◌, ℕ, suc, ◌+◌, ◌<◌, ◌≤◌, List, length, Some, None, true};
-ghost use Rattle.std.specs.Prelude.{slice_get, option_map, find};
+ghost use Rattle.std.specs.Prelude.{[], slice_get, option_map, find, Bool};
+ghost use Rattle.std.specs.List.{AllByRecursion};
 ghost use Rattle.je_machine.specs.Value.{Value};
 ghost use Rattle.je_machine.specs.Heap.{Heap};
 ghost use Rattle.je_machine.specs.Classes.{Classes};
-ghost use Rattle.je_machine.specs.Operation.{Handler};
+ghost use Rattle.je_machine.specs.Operation.{Handler, Program};
 ghost use Rattle.je_machine.specs.Machine.{catcher, is_handler_of};
 ghost use Rattle.je_splice.specs.Block.{Piece};
+ghost use Rattle.je_splice.specs.Laid.{Fragment, reference_of};
 ghost use Rattle.je_splice.specs.Layout.{Codes, operation_codes, Item, Keeps, laid_code};
 ghost use Rattle.je_splice.specs.Marks.{Marks, OnlyInstead, first_of, arrive, stand, fall_to};
 ghost use Rattle.je_splice.specs.Marks.{marked_items, new_index, marked_handlers, marked_target};
-ghost use Rattle.je_splice.specs.Marks.{IsPut, IsKept};
+ghost use Rattle.je_splice.specs.Marks.{IsPut, IsKept, replaced};
+ghost use Rattle.je_splice.specs.Resolved.{fragment_items};
+ghost use Rattle.je_splice.specs.Put.{PutAt, marks_of, StandsInstead};
 
 /// The places of indexes rise, and there is one for each item.
 pub fn places_are_counted<A, X, H>()
@@ -78,4 +82,21 @@ pub fn throws_are_placed<X>()
         → catcher (marked_handlers operation_codes m handlers) classes place heap reference
         ≡ option_map (marked_target m)
         (find (is_handler_of classes heap reference i) handlers) }
+{}
+
+/// What a list puts in the place of instructions is put there alone.
+pub fn replacements_stand_alone<X, H>()
+    ensures { (target_of : H → ℕ) (completes : X → Bool) (places : List (PutAt X)) →
+        AllByRecursion StandsInstead places
+        → OnlyInstead (marks_of {X = X} {H = H} target_of completes places []) }
+{}
+
+/// Where nothing is put but in the place of instructions, what is meant by the marked method is
+/// said by its own indexes.
+pub fn methods_are_replaced<Y>()
+    ensures { (fragment_of : Y → Fragment) (p : Program) (m : Marks Y Handler) →
+        OnlyInstead m → ((h : Handler) → m.entry_of h ≡ None)
+        → reference_of p.parameters (fragment_items fragment_of m p.operations)
+        (marked_handlers operation_codes m p.handlers)
+        ≡ replaced p (λ i. option_map fragment_of (m.instead i)) }
 {}
