@@ -1,0 +1,6 @@
+pub mod PathLemmas
+pub mod NodeLemmas
+pub mod AskingLemmas
+pub mod FrontLemmas
+pub mod PoolLemmas
+pub mod SeekLemmas

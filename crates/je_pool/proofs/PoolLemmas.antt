@@ -1,0 +1,133 @@
+-- A class more in a pool leaves what is found, where it is what the files tell.
+use Rattle.std.proofs.Common.{◌≡◌, ℕ, ◌≤◌, ◌↔◌, Bool, true, false, cond, List, [], ◌∷◌, ◌++◌, length, Option, Some, None, refl, sym, ap, ◌∙◌, subst}
+use Rattle.std.specs.Prelude.{slice_get}
+use Rattle.std.specs.Option.{option_or}
+use Rattle.std.proofs.lemmas.Slice.Eq.{slice_eq-Decides}
+use Rattle.std.proofs.lemmas.Bool.Decides.{Decides-eqb}
+use Rattle.je_base.specs.Files.{Contents}
+use Rattle.je_base.specs.Text.{is_same_text}
+use Rattle.je_consts.specs.Pool.{class_at}
+use Rattle.je_class.specs.declared.fault.ClassFault.{ClassFault}
+use Rattle.je_class.specs.declared.fault.TheConstants.{MOST_BYTES}
+use Rattle.je_class.specs.Class.{Class}
+use Rattle.je_class.specs.ClassBytes.{ClassBytes}
+use Rattle.je_class.specs.Faults.{FirstFault}
+use Rattle.je_world.specs.Question.{Name}
+use Rattle.je_pool.specs.Found.{Found, Nothing, IsClass, BadClass, WrongName, IsNamed, FileIs, FileTells, WorldOf, file_of}
+use Rattle.je_pool.specs.Pool.{PoolState, kept, is_name, FoundBy, SameWorld, with_class}
+
+-- bytes are one class file or have one first fault
+pub record OneClass : Type 0 where
+  pub same : (bytes : List ℕ) (c d : Class) → ClassBytes bytes c → ClassBytes bytes d → c ≡ d
+  pub no_fault : (bytes : List ℕ) (c : Class) (d : ClassFault) → length bytes ≤ MOST_BYTES → ClassBytes bytes c → FirstFault bytes d → ⊥
+  pub one_fault : (bytes : List ℕ) (d e : ClassFault) → FirstFault bytes d → FirstFault bytes e → d ≡ e
+
+-- texts that pass the test are equal
+same_text : (a b : List ℕ) → is_same_text a b ≡ true → a ≡ b
+same_text a b same = (slice_eq-Decides Decides-eqb a b (is_same_text a b) refl).0 same
+
+-- a text passes the test with itself
+own_text : (a : List ℕ) → is_same_text a a ≡ true
+own_text a = (slice_eq-Decides Decides-eqb a a (is_same_text a a) refl).1 refl
+
+-- ---- what a file is
+
+one_name : {c d : Class} {a b : Name} → c ≡ d → IsNamed a c → IsNamed b d → a ≡ b
+one_name {c} {d} {a} {b} is h k =
+    let P : Class → Type 0 = λ x. IsNamed a x in
+    let here : IsNamed a d = subst P is h in
+    let e : Some a ≡ Some b = sym here ∙ k in cc
+
+one_file : OneClass → (name : Name) (bytes : List ℕ) (a b : Found) → FileIs name bytes a → FileIs name bytes b → a ≡ b
+one_file one name bytes Nothing b h k = absurd h
+one_file one name bytes (IsClass c) Nothing h k = absurd k
+one_file one name bytes (IsClass c) (IsClass d) h k =
+    ap (λ (x : Class). IsClass x) (one.same bytes c d h.0.bytes_are k.0.bytes_are)
+one_file one name bytes (IsClass c) (BadClass d) h k =
+    absurd (one.no_fault bytes c d h.0.short h.0.bytes_are k)
+one_file one name bytes (IsClass c) (WrongName other) h k =
+    absurd (k.0 (sym (one_name (one.same bytes c k.1 h.0.bytes_are k.2.bytes_are) h.1 k.3)))
+one_file one name bytes (BadClass d) Nothing h k = absurd k
+one_file one name bytes (BadClass d) (IsClass c) h k =
+    absurd (one.no_fault bytes c d k.0.short k.0.bytes_are h)
+one_file one name bytes (BadClass d) (BadClass e) h k =
+    ap (λ (x : ClassFault). BadClass x) (one.one_fault bytes d e h k)
+one_file one name bytes (BadClass d) (WrongName other) h k =
+    absurd (one.no_fault bytes k.1 d k.2.short k.2.bytes_are h)
+one_file one name bytes (WrongName other) Nothing h k = absurd k
+one_file one name bytes (WrongName other) (IsClass c) h k =
+    absurd (h.0 (one_name (one.same bytes h.1 c h.2.bytes_are k.0.bytes_are) h.3 k.1))
+one_file one name bytes (WrongName other) (BadClass d) h k =
+    absurd (one.no_fault bytes h.1 d h.2.short h.2.bytes_are k)
+one_file one name bytes (WrongName a) (WrongName b) h k =
+    ap (λ (x : Name). WrongName x) (one_name (one.same bytes h.1 k.1 h.2.bytes_are k.2.bytes_are) h.3 k.3)
+
+-- files tell one thing of a name
+pub one_told : OneClass → (name : Name) (file : Option (List ℕ)) (a b : Found) → FileTells name file a → FileTells name file b → a ≡ b
+one_told one name None a b h k = h ∙ sym k
+one_told one name (Some bytes) a b h k = one_file one name bytes a b h k
+
+-- so does a pool over files
+pub one_found : OneClass → (o : Option Class) (name : Name) (file : Option (List ℕ)) (a b : Found) → FoundBy o (FileTells name file) a → FoundBy o (FileTells name file) b → a ≡ b
+one_found one (Some c) name file a b h k = h ∙ sym k
+one_found one None name file a b h k = one_told one name file a b h k
+
+-- ---- the class of a name
+
+pub kept_named : (name : Name) (classes : List Class) (c : Class) → kept name classes ≡ Some c → IsNamed name c
+kept_named name [] c h = absurd cc
+kept_named name (d ∷ classes) c h =
+    first (class_at d.consts d.this_class) refl (λ k. kept_named name classes c k)
+  where
+    here : (b : Bool) → (kept name classes ≡ Some c → IsNamed name c) → cond b (Some d) (kept name classes) ≡ Some c → (b ≡ true → IsNamed name d) → IsNamed name c
+    here true rest k named =
+        let same : d ≡ c = cc in
+        let P : Class → Type 0 = λ x. IsNamed name x in subst P same (named refl)
+    here false rest k named = rest k
+
+    first : (o : Option Name) → class_at d.consts d.this_class ≡ o → (kept name classes ≡ Some c → IsNamed name c) → IsNamed name c
+    first None is rest = rest (rw is at h)
+    first (Some own) is rest =
+        let k : cond (is_same_text own name) (Some d) (kept name classes) ≡ Some c = rw is at h in
+        here (is_same_text own name) rest k (λ yes. is ∙ ap (λ (x : Name). Some x) (same_text own name yes))
+
+-- one class more behind the others
+pub kept_more : (name : Name) (classes : List Class) (c : Class) → kept name (classes ++ c ∷ []) ≡ option_or (kept name classes) (cond (is_name name (class_at c.consts c.this_class)) (Some c) None)
+kept_more name [] c = refl
+kept_more name (d ∷ classes) c =
+    first (is_name name (class_at d.consts d.this_class)) (kept_more name classes c)
+  where
+    first : (b : Bool) → kept name (classes ++ c ∷ []) ≡ option_or (kept name classes) (cond (is_name name (class_at c.consts c.this_class)) (Some c) None) → cond b (Some d) (kept name (classes ++ c ∷ [])) ≡ option_or (cond b (Some d) (kept name classes)) (cond (is_name name (class_at c.consts c.this_class)) (Some c) None)
+    first true rest = refl
+    first false rest = rest
+
+pub last_class : (classes : List Class) (c : Class) → slice_get (classes ++ c ∷ []) (length classes) ≡ Some c
+last_class [] c = refl
+last_class (d ∷ classes) c = last_class classes c
+
+-- what is found under a name where a class of this or another name came
+came : OneClass → (name other : Name) (file : Option (List ℕ)) (o : Option Class) (c : Class) (found : Found) (b : Bool) → is_same_text name other ≡ b → (name ≡ other → (o ≡ None) × FileTells other file (IsClass c)) → FoundBy o (FileTells other file) found ↔ FoundBy (option_or o (cond b (Some c) None)) (FileTells other file) found
+came one name other file (Some d) c found b test told = (λ h. h, λ h. h)
+came one name other file None c found false test told = (λ h. h, λ h. h)
+came one name other file None c found true test told =
+    let tells = (told (same_text name other test)).1 in
+    (λ h. one_told one other file found (IsClass c) h tells, λ h. subst (λ (x : Found). FileTells other file x) (sym h) tells)
+
+-- the class that the files tell
+pub same_with : OneClass → (files : Contents) (pool : PoolState) (name : Name) (c : Class) → kept name pool.classes ≡ None → IsNamed name c → WorldOf files pool.roots name (IsClass c) → SameWorld files pool (with_class pool c)
+same_with one files pool name c none named told =
+    λ other found.
+    let own : is_name other (class_at c.consts c.this_class) ≡ is_same_text name other = ap (is_name other) named in
+    let more : kept other (pool.classes ++ c ∷ []) ≡ option_or (kept other pool.classes) (cond (is_same_text name other) (Some c) None) = kept_more other pool.classes c ∙ ap (λ (b : Bool). option_or (kept other pool.classes) (cond b (Some c) None)) own in
+    let here : name ≡ other → (kept other pool.classes ≡ None) × FileTells other (file_of files pool.roots other) (IsClass c) =
+    λ is. let P : Name → Type 0 = λ x. (kept x pool.classes ≡ None) × FileTells x (file_of files pool.roots x) (IsClass c) in subst P is (none, told) in
+    let step = came one name other (file_of files pool.roots other) (kept other pool.classes) c found (is_same_text name other) refl here in
+    let Q : Option Class → Type 0 = λ o. FoundBy (kept other pool.classes) (FileTells other (file_of files pool.roots other)) found ↔ FoundBy o (FileTells other (file_of files pool.roots other)) found in
+    subst Q (sym more) step
+
+-- the pool as it was
+pub same_world : (files : Contents) (old new : PoolState) → new.roots ≡ old.roots → new.classes ≡ old.classes → SameWorld files old new
+same_world files old new roots classes = λ name found.
+    let P : List Class × List (List ℕ) → Type 0 = λ p. FoundBy (kept name old.classes) (WorldOf files old.roots name) found ↔ FoundBy (kept name p.0) (WorldOf files p.1 name) found in
+    let pair : (old.classes, old.roots) ≡ (new.classes, new.roots) = ap (λ (cs : List Class). (cs, old.roots)) (sym classes) ∙ ap (λ (rs : List (List ℕ)). (new.classes, rs)) (sym roots) in
+    subst P pair (λ h. h, λ h. h)
