@@ -1,0 +1,11 @@
+pub mod Characters
+pub mod Words
+pub mod Numbers
+pub mod Literals
+pub mod Marks
+pub mod Pieces
+pub mod Places
+pub mod Tokens
+pub mod Reading
+pub mod Cutting
+pub mod Slices

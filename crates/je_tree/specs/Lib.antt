@@ -1,0 +1,7 @@
+pub mod Tree
+pub mod Terminals
+pub mod Levels
+pub mod FragmentGrammar
+pub mod Nodes
+pub mod Trees
+pub mod Sample

@@ -1,0 +1,17 @@
+//! The syntax of fragments: their trees.
+//!
+//! Stands on je_base, je_desc and je_tokens. Offers above: the types of trees and plans; and in
+//! specs/ the trees of fragments, which tokens a tree has, and how many nodes.
+#![tactic(auto)]
+
+mod laws;
+mod names;
+mod operators;
+mod plans;
+mod trees;
+
+pub use laws::differences_go_from_the_left;
+pub use names::{Base, Ident, Literal, Name, Prim, TypeName};
+pub use operators::{AssignOp, BinaryOp, CastTo, StepOp, UnaryOp};
+pub use plans::{CatchPlan, Context, Import, MethodPlan, Place, Rule};
+pub use trees::{Arg, Block, Catch, Expr, ForInit, Fragment, Init, Local, Stmt, Variable};
