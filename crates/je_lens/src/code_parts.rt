@@ -1,7 +1,7 @@
 //! The parts of a Code attribute (JVMS 4.7.3), as far as its exception table, and its program.
 
 ghost use Rattle.std.specs.Prelude.{IfOk};
-ghost use Rattle.je_instr.specs.Assembling.{IsProgram};
+ghost use Rattle.je_instr.specs.Assembling.{IsProgram, AllowsProgram};
 
 use je_base::{Cut, Memory, run_at, u16_at, u32_at};
 use je_consts::Consts;
@@ -128,7 +128,8 @@ pub fn code_parts(alloc: Global, info: &[u8]) -> Result<CodeParts<'_>, MethodFau
 
 /// The program of these parts.
 pub fn program_of(alloc: Global, parts: &CodeParts, consts: &Consts) -> Result<Decoded, MethodFault>
-    ensures { IfOk result (λ d. IsProgram d.program) }
+    ensures program { IfOk result (λ d. IsProgram d.program) }
+    ensures allowed { IfOk result (λ d. AllowsProgram consts.now d.program) }
 {
     // The law of the layer below that the proof stands on.
     decoded_again();

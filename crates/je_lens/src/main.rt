@@ -1,9 +1,10 @@
 //! The program `je_lens`: shows what the parts of the editor answer on real class files.
 //!
-//! Stands on je_base, je_class, je_code, je_consts and je_instr. `je_lens reread PATH..` reads
-//! class files and writes them again, `je_lens code PATH..` decodes the code of their methods and
-//! assembles it again, and `je_lens tables PATH..` does so with the tables of the code; `je_lens
-//! listing PATH..` prints what was decoded, and `je_lens rows PATH..` the rows of the tables.
+//! Stands on the crates of the format and on je_code, je_instr and je_shapes. `je_lens reread
+//! PATH..` reads class files and writes them again, `je_lens code PATH..` decodes the code of their
+//! methods and assembles it again, and `je_lens tables PATH..` does so with the tables of the code;
+//! `je_lens listing PATH..` prints what was decoded, and `je_lens rows PATH..` the rows of the
+//! tables; `je_lens shapes PATH..` seeks the least shapes of the methods.
 #![tactic(auto)]
 
 mod again;
@@ -16,6 +17,7 @@ mod mnemonics;
 mod reread;
 mod rows;
 mod same;
+mod shapes;
 mod tables;
 mod verb;
 mod verdict;
@@ -25,6 +27,7 @@ use files::Stop;
 use je_base::{FsFiles, StdSink};
 use listing::{Listed, list_all};
 use reread::reread_all;
+use shapes::shape_all;
 use std::env;
 use std::process::ExitCode;
 use verb::Verb;
@@ -55,6 +58,7 @@ fn main(rt: HostRuntime) -> ExitCode {
         Verb::Tables => all_again(rt.alloc(), Part::Tables, paths, &mut files, &mut out),
         Verb::Listing => list_all(rt.alloc(), Listed::Instrs, paths, &mut files, &mut out),
         Verb::Rows => list_all(rt.alloc(), Listed::Rows, paths, &mut files, &mut out),
+        Verb::Shapes => shape_all(rt.alloc(), paths, &mut files, &mut out),
     };
     match amiss {
         Ok(0) => ExitCode::from(0),

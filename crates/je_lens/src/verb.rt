@@ -13,6 +13,8 @@ pub enum Verb {
     Listing,
     /// The rows of the tables are printed.
     Rows,
+    /// The least shapes of their methods are sought.
+    Shapes,
 }
 
 impl Verb {
@@ -24,6 +26,7 @@ impl Verb {
             "tables" => Some(Verb::Tables),
             "listing" => Some(Verb::Listing),
             "rows" => Some(Verb::Rows),
+            "shapes" => Some(Verb::Shapes),
             _ => None,
         }
     }
