@@ -1,0 +1,13 @@
+//! Calls of a method replaced: what becomes of its instructions by the rules.
+//!
+//! Stands on je_value, whose operations are looked at, and on je_shape, whose shapes say what is
+//! reached. Offers above: `choices_of` and `count_given`, each of which is the definition's.
+#![tactic(auto)]
+
+mod choose;
+mod rule;
+mod stop;
+
+pub use choose::{choices_of, count_given};
+pub use rule::{Choice, Fragment, Rule};
+pub use stop::CallStop;
