@@ -1,4 +1,4 @@
--- Serves private functions: what becomes of the instructions of a method.
+-- What becomes of the instructions of a method, by whether there is a shape for each.
 use Rattle.std.specs.Prelude.{List, [], ◌∷◌, Option, is_some, IsTrue}
 use Rattle.je_machine.specs.Operation.{Operation}
 use Rattle.je_calls.specs.declared.rule.Choice.{Choice}
