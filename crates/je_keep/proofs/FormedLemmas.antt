@@ -18,6 +18,7 @@ use Rattle.je_instr.specs.declared.instr.Instr.TheVariants as instr
 use Rattle.je_instr.specs.declared.program.Handler as entries
 use Rattle.je_instr.specs.declared.program.RawHandler.{RawHandler}
 use Rattle.je_instr.specs.declared.program.Decoded.{Decoded}
+use Rattle.je_instr.specs.declared.program.Program as decoded
 use Rattle.je_instr.specs.Allowed.{IsClass, HasDimensions, IsAllowed}
 use Rattle.je_instr.specs.Assembling.{IsWithinProgram, IsProgram}
 use Rattle.je_instr.specs.CodeProgram.{HasTargets, IsHandlerOf, CodeProgram}
@@ -224,28 +225,30 @@ of_all : {A : Type 0} (P Q : A → Type 0) (xs : List A) → ((x : A) → P x �
 of_all P Q [] f h = tt
 of_all P Q (x ∷ xs) f h = (f x h.0, of_all P Q xs f h.1)
 
-module _ (again : (consts : List Place) (code : List ℕ) (table : List RawHandler) (d : Decoded) → Decodes consts code table d → IsProgram d.program)
-    (consts : List Place) (is_static : Bool) (text code : List ℕ) (table : List RawHandler) (p : Program) where
-  abbrev Is : Type 0
-  Is = CodeProgram consts is_static text code table p
+module _ (consts : List Place) (code : decoded.Program) (p : Program) (program : IsProgram code) (operations : AllZip (Resolves consts) code.instrs p.operations) where
+  many : length code.instrs ≡ length p.operations
+  many = zip_long (Resolves consts) code.instrs p.operations operations
 
-  many : (h : Is) → length h.decoded.program.instrs ≡ length p.operations
-  many h = zip_long (Resolves consts) h.decoded.program.instrs p.operations h.resolved
+  operations_formed : AllByRecursion (IsFormed consts (length p.operations)) p.operations
+  operations_formed =
+      let targets = subst (λ (n : ℕ). AllByRecursion (HasTargets n) code.instrs) many program.targets in
+      all_formed consts (length p.operations) code.instrs p.operations targets operations
 
-  operations_formed : Is → AllByRecursion (IsFormed consts (length p.operations)) p.operations
-  operations_formed h =
-      let program : IsProgram h.decoded.program = again consts code table h.decoded h.decodes in
-      let targets = subst (λ (n : ℕ). AllByRecursion (HasTargets n) h.decoded.program.instrs) (many h) program.targets in
-      all_formed consts (length p.operations) h.decoded.program.instrs p.operations targets h.resolved
-
-  pub program_formed : IsPool consts → Is → IsWellFormed p
-  program_formed pool h =
-      let program : IsProgram h.decoded.program = again consts code table h.decoded h.decodes in
-      let within = subst (λ (n : ℕ). AllByRecursion (IsWithinProgram n) h.decoded.program.handlers) (many h) program.handlers in
+  pub resolved_formed : IsPool consts → AllZip (IsHandlerOf consts) code.handlers p.handlers → IsWellFormed p
+  resolved_formed pool handlers =
+      let within = subst (λ (n : ℕ). AllByRecursion (IsWithinProgram n) code.handlers) many program.handlers in
       record {
-        operands = of_all (IsFormed consts (length p.operations)) (λ o. IsTrue (is_well_formed o)) p.operations (λ o f. f.formed pool) (operations_formed h);
-        handlers = all_within consts (length p.operations) h.decoded.program.handlers p.handlers within h.handlers;
+        operands = of_all (IsFormed consts (length p.operations)) (λ o. IsTrue (is_well_formed o)) p.operations (λ o f. f.formed pool) operations_formed;
+        handlers = all_within consts (length p.operations) code.handlers p.handlers within handlers;
       }
 
-  pub program_within : Is → AllByRecursion (StaysWithin (length p.operations)) p.operations
-  program_within h = of_all (IsFormed consts (length p.operations)) (StaysWithin (length p.operations)) p.operations (λ o f. f.within) (operations_formed h)
+  pub resolved_within : AllByRecursion (StaysWithin (length p.operations)) p.operations
+  resolved_within = of_all (IsFormed consts (length p.operations)) (StaysWithin (length p.operations)) p.operations (λ o f. f.within) operations_formed
+
+module _ (again : (consts : List Place) (code : List ℕ) (table : List RawHandler) (d : Decoded) → Decodes consts code table d → IsProgram d.program)
+    (consts : List Place) (is_static : Bool) (text code : List ℕ) (table : List RawHandler) (p : Program) where
+  pub program_formed : IsPool consts → CodeProgram consts is_static text code table p → IsWellFormed p
+  program_formed pool h = resolved_formed consts h.decoded.program p (again consts code table h.decoded h.decodes) h.resolved pool h.handlers
+
+  pub program_within : CodeProgram consts is_static text code table p → AllByRecursion (StaysWithin (length p.operations)) p.operations
+  program_within h = resolved_within consts h.decoded.program p (again consts code table h.decoded h.decodes) h.resolved

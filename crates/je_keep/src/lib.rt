@@ -9,6 +9,6 @@ mod formed;
 mod rows;
 mod runs;
 
-pub use formed::code_is_well_formed;
+pub use formed::{code_is_well_formed, programs_are_well_formed};
 pub use rows::small_codes;
 pub use runs::code_keeps_to_shapes;
