@@ -1,0 +1,5 @@
+pub mod CallLemmas
+pub mod FragmentLemmas
+pub mod MeantLemmas
+pub mod StepLemmas
+pub mod AgreeLemmas

@@ -1,6 +1,5 @@
 -- A method whose calls are replaced.
 use Rattle.std.specs.Prelude.{◌≡◌, ℕ, suc, List, [], length}
-use Rattle.je_consts.specs.declared.place.Place.{Place}
 use Rattle.je_machine.specs.Operation as machine
 use Rattle.je_instr.specs.declared.instr.Instr.{Instr}
 use Rattle.je_instr.specs.declared.program.Handler.{Handler}

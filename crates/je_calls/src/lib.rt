@@ -4,12 +4,14 @@
 //! reached. Offers above: `choices_of` and `count_given`, each of which is the definition's.
 #![tactic(auto)]
 
+mod agrees;
 mod blocks;
 mod choose;
 mod replace;
 mod rule;
 mod stop;
 
+pub use agrees::new_programs_agree;
 pub use blocks::places_of;
 pub use choose::{choices_of, count_given};
 pub use replace::Replaced;
