@@ -3,3 +3,4 @@ pub mod FragmentLemmas
 pub mod MeantLemmas
 pub mod StepLemmas
 pub mod AgreeLemmas
+pub mod ShapeLemmas

@@ -72,3 +72,7 @@ pub record CanReplace (t : Task) (program : Program) : Type 0 where
   pub x : Assignment
   pub faultless : AreFaultless (method_with t program) x
   pub plain : ArePlain t.rules x program
+
+-- some program is the method's, with which that can be done
+abbrev pub IsReplaceableTask : Task → Type 0
+IsReplaceableTask t = (program : Program) × IsProgramOf t program × CanReplace t program

@@ -7,6 +7,7 @@
 mod agrees;
 mod blocks;
 mod choose;
+mod reach;
 mod replace;
 mod rule;
 mod stop;
@@ -14,6 +15,7 @@ mod stop;
 pub use agrees::new_programs_agree;
 pub use blocks::places_of;
 pub use choose::{choices_of, count_given};
+pub use reach::choices_for;
 pub use replace::Replaced;
 pub use rule::{Choice, Fragment, Rule};
 pub use stop::CallStop;
