@@ -4,3 +4,4 @@ pub mod MeantLemmas
 pub mod StepLemmas
 pub mod AgreeLemmas
 pub mod ShapeLemmas
+pub mod ReplaceLemmas

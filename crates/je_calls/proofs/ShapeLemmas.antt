@@ -29,6 +29,7 @@ use Rattle.je_calls.specs.declared.rule.Rule.{Rule}
 use Rattle.je_calls.specs.Choices.{choices_by, AreReplaceable, AreChosen}
 use Rattle.je_calls.specs.Chosen.{is_reached, choice_if, choice_of, choices_from, IsReplaceable}
 use Rattle.je_calls.specs.Method.{Task, task, IsProgramOf, method_with, ArePlain}
+use Rattle.je_calls.proofs.AgreeLemmas.{zip_long}
 
 -- ---- an index is reached where there is a shape
 
@@ -220,3 +221,14 @@ replaceable_found laws t list os found machine x of faultless plain =
     let same : os ≡ machine.operations = laws.one t.consts t.code.instrs os machine.operations found.resolves of.operations in
     subst (λ (l : List Operation). AreReplaceable t.rules list l) (sym same)
     (are_replaceable laws.below t machine list (found.shapes machine (record { operations = of.operations; handlers = of.handlers })) x faultless plain)
+
+choices_long : (rules : List Rule) (list : List (Option program.Shape)) (os : List Operation) → length list ≡ length os → length (choices_by rules list os) ≡ length os
+choices_long rules [] [] long = refl
+choices_long rules [] (o ∷ os) long = absurd (omega (arith, long))
+choices_long rules (known ∷ list) [] long = absurd (omega (arith, long))
+choices_long rules (known ∷ list) (o ∷ os) long = ap suc (choices_long rules list os (omega (arith, long)))
+
+pub chosen_long : (t : Task) (list : List (Option program.Shape)) (os : List Operation) → IsFound t list os → length list ≡ length os → (choices : List Choice) → choices ≡ choices_by t.rules list os
+    → length choices ≡ length t.code.instrs
+chosen_long t list os found long choices is =
+    ap length is ∙ choices_long t.rules list os long ∙ sym (zip_long (Resolves t.consts) t.code.instrs os found.resolves)

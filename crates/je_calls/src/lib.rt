@@ -16,6 +16,6 @@ pub use agrees::new_programs_agree;
 pub use blocks::places_of;
 pub use choose::{choices_of, count_given};
 pub use reach::choices_for;
-pub use replace::Replaced;
+pub use replace::{Replaced, replace_calls};
 pub use rule::{Choice, Fragment, Rule};
 pub use stop::CallStop;

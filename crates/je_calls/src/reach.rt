@@ -72,6 +72,7 @@ pub fn choices_for(
     rules: &[Rule],
 ) -> Result<Vec<Choice>, CallStop>
     requires { AllowsProgram consts.now p.now }
+    ensures long { IfOk result (λ choices. length choices.items ≡ length p.now.instrs) }
     ensures chosen { IfOk result (λ choices. (program : machine.Program) → IsProgramOf
         (task class_name.now consts.now p.now is_static is_init types.now rules.now) program
         → AreChosen
