@@ -5,3 +5,4 @@ pub mod StepLemmas
 pub mod AgreeLemmas
 pub mod ShapeLemmas
 pub mod ReplaceLemmas
+pub mod ReachLemmas

@@ -7,15 +7,14 @@
 mod agrees;
 mod blocks;
 mod choose;
+mod laws;
 mod reach;
 mod replace;
 mod rule;
 mod stop;
 
 pub use agrees::new_programs_agree;
-pub use blocks::places_of;
-pub use choose::{choices_of, count_given};
-pub use reach::choices_for;
+pub use laws::reached_is_one;
 pub use replace::{Replaced, replace_calls};
 pub use rule::{Choice, Fragment, Rule};
 pub use stop::CallStop;
