@@ -6,3 +6,7 @@ pub mod AgreeLemmas
 pub mod ShapeLemmas
 pub mod ReplaceLemmas
 pub mod ReachLemmas
+pub mod FlowLemmas
+pub mod ItemLemmas
+pub mod TargetLemmas
+pub mod ProgramLemmas

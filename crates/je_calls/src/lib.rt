@@ -8,6 +8,7 @@ mod agrees;
 mod blocks;
 mod choose;
 mod laws;
+mod programs;
 mod reach;
 mod replace;
 mod rule;
@@ -15,6 +16,7 @@ mod stop;
 
 pub use agrees::new_programs_agree;
 pub use laws::reached_is_one;
+pub use programs::replaced_programs;
 pub use replace::{Replaced, replace_calls};
 pub use rule::{Choice, Fragment, Rule};
 pub use stop::CallStop;
