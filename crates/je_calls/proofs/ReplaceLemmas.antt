@@ -6,6 +6,8 @@ use Rattle.je_consts.specs.declared.place.Place.{Place}
 use Rattle.je_instr.specs.Allowed.{IsAllowed}
 use Rattle.je_instr.specs.CodeProgram.{parameters_of}
 use Rattle.je_instr.specs.Resolves.{Resolves}
+use Rattle.je_shape.specs.Least.{Assignment}
+use Rattle.je_keep.specs.MethodCode.{AreFaultless}
 use Rattle.je_calls.proofs.ShapeLemmas.{handlers_exist}
 use Rattle.je_machine.specs.Operation as machine
 use Rattle.je_instr.specs.declared.instr.Instr.{Instr}
@@ -26,7 +28,7 @@ use Rattle.je_calls.specs.declared.rule.Choice.{Choice}
 use Rattle.je_calls.specs.Blocks.{block_of, code_by, blocks_of}
 use Rattle.je_calls.specs.Choices.{AreChosen}
 use Rattle.je_calls.specs.Chosen.{choices_from, chosen_at, is_given}
-use Rattle.je_calls.specs.Method.{Task, IsProgramOf, IsReplaceableTask}
+use Rattle.je_calls.specs.Method.{Task, IsProgramOf, method_with, ArePlain, IsReplaceableTask}
 use Rattle.je_calls.specs.RefRun.{Agrees}
 use Rattle.je_calls.specs.Result.{new_program, new_place, with_code, IsReplaced}
 
@@ -103,3 +105,12 @@ formed all t allowed some choices chosen =
 pub some_item : {A : Type 0} (xs : List A) (empty : Bool) → empty ≡ false → (xs ≡ [] → IsTrue empty) → 0 < length xs
 some_item [] empty none h = let yes = h refl in absurd cc
 some_item (a ∷ xs) empty none h = omega arith
+
+-- What holds of the new program of each method that has these instructions holds of what is answered, where there is such a method.
+pub new_holds : (P : Program → Type 0) (t : Task) (choices : List Choice) (code : Program) → code ≡ new_program t.code choices → IsReplaceableTask t
+    → ((program : machine.Program) → IsProgramOf t program → AreChosen t program choices)
+    → ((program : machine.Program) (x : Assignment) → IsProgramOf t program → AreFaultless (method_with t program) x → ArePlain t.rules x program
+    → P (new_program t.code (choices_from t.rules x 0 program.operations))) → P code
+new_holds P t choices code is z chosen holds =
+    let one = chosen z.0 z.1 in
+    subst P (sym (is ∙ ap (new_program t.code) one.choices_are)) (holds z.0 one.x z.1 one.faultless one.plain)

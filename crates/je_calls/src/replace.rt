@@ -1,19 +1,22 @@
 //! Calls of a method replaced.
 
-ghost use Rattle.std.specs.Prelude.{◌≡◌, IfOk, IfErr, OnOk};
+ghost use Rattle.std.specs.Prelude.{◌≡◌, suc, ◌<◌, length, count_by, IfOk, IfErr, OnOk};
 ghost use Rattle.je_machine.specs.Operation as machine;
 ghost use Rattle.je_instr.specs.Assembling.{IsProgram, AllowsProgram};
 ghost use Rattle.je_calls.specs.declared.stop.CallStop.TheVariants as stops;
 ghost use Rattle.je_calls.specs.Method.{task, IsProgramOf, IsReplaceableTask};
-ghost use Rattle.je_calls.specs.Result.{IsReplaced};
+ghost use Rattle.je_put.specs.Result.{Lists};
+ghost use Rattle.je_calls.specs.Chosen.{is_given};
+ghost use Rattle.je_calls.specs.Result.{new_program, new_place, IsReplaced};
 
 use crate::agrees::new_programs_agree;
 use crate::blocks::places_of;
 use crate::choose::count_given;
+use crate::programs::replaced_programs;
 use crate::reach::choices_for;
-use crate::rule::Rule;
+use crate::rule::{Choice, Rule};
 use crate::stop::CallStop;
-use je_base::Text;
+use je_base::{Memory, Text};
 use je_consts::Consts;
 use je_desc::MethodType;
 use je_instr::{InstrIndex, Program, operations_exist};
@@ -31,6 +34,24 @@ pub struct Replaced {
     pub new_of: Items<InstrIndex>,
     /// How many calls were chosen.
     pub count: usize,
+}
+
+/// The program in which instructions give way as is chosen.
+fn replaced_as(alloc: Global, p: &Program, choices: &[Choice]) -> Result<Replaced, Memory>
+    requires program { IsProgram p.now }
+    requires long { length choices.now ≡ length p.now.instrs }
+    ensures program { IfOk result (λ r. r.program ≡ new_program p.now choices.now) }
+    ensures new_of { IfOk result (λ r.
+        Lists (new_place p.now choices.now) (suc (length p.now.instrs)) r.new_of) }
+    ensures count { IfOk result (λ r. r.count ≡ count_by is_given choices.now) }
+{
+    let places = places_of(alloc, p.instrs.as_slice(), choices)?;
+    let spliced = splice(alloc, p, &places, &[])?;
+    Ok(Replaced {
+        program: spliced.program,
+        new_of: spliced.new_of,
+        count: count_given(choices),
+    })
 }
 
 /// A method of a class in which each call that is reached and that a rule fits gives way to the
@@ -58,6 +79,10 @@ pub fn replace_calls(
         (task class_name.now consts.now p.now is_static is_init types.now rules.now) program
         → IsReplaced
         (task class_name.now consts.now p.now is_static is_init types.now rules.now) program r) }
+    // It is a program, has an instruction, and the constants allow it.
+    ensures program { IfOk result (λ r. IsProgram r.program) }
+    ensures some { IfOk result (λ r. 0 < length r.program.instrs) }
+    ensures allowed { IfOk result (λ r. AllowsProgram consts.now r.program) }
     // The method is such a one,
     ensures form { OnOk result (IsReplaceableTask
         (task class_name.now consts.now p.now is_static is_init types.now rules.now)) }
@@ -68,6 +93,7 @@ pub fn replace_calls(
     // The laws that the proof stands on.
     new_programs_agree();
     operations_exist();
+    replaced_programs();
     // The constants are a pool.
     let _ = consts.count();
     if p.instrs.is_empty() {
@@ -82,11 +108,6 @@ pub fn replace_calls(
         Ok(choices) => choices,
         Err(e) => return Err(e),
     };
-    let places = places_of(alloc, p.instrs.as_slice(), &choices)?;
-    let spliced = splice(alloc, p, &places, &[])?;
-    Ok(Replaced {
-        program: spliced.program,
-        new_of: spliced.new_of,
-        count: count_given(&choices),
-    })
+    let replaced = replaced_as(alloc, p, &choices)?;
+    Ok(replaced)
 }
