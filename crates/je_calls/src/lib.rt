@@ -1,7 +1,8 @@
-//! Calls of a method replaced: what becomes of its instructions by the rules.
+//! Calls of a method replaced by fragments.
 //!
-//! Stands on je_value, whose operations are looked at, and on je_shape, whose shapes say what is
-//! reached. Offers above: `choices_of` and `count_given`, each of which is the definition's.
+//! Stands on je_shapes and je_link for what is reached, on je_put for the code, and on the laws of
+//! je_splice, je_stay and je_keep for what it does. Offers above: `replace_calls`, the rules and
+//! fragments that it takes, and laws of what it answers.
 #![tactic(auto)]
 
 mod agrees;
