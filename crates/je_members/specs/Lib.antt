@@ -1,0 +1,4 @@
+pub mod Among
+pub mod Subtype
+pub mod Common
+pub mod Sample

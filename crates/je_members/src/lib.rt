@@ -1,0 +1,9 @@
+//! Subtypes, common superclasses and members of classes that are found by name.
+//!
+//! Stands on je_base, je_desc and je_world. Offers above: what each such question asks of a world,
+//! in which order, and what comes of the answers.
+#![tactic(auto)]
+
+mod laws;
+
+pub use laws::{small_assignments, small_common_supers, small_subtypes};
