@@ -2,3 +2,4 @@ pub mod Among
 pub mod Subtype
 pub mod Common
 pub mod Sample
+pub mod OnWalk

@@ -1,14 +1,29 @@
-//! Small cases that are computed.
+//! Laws of the questions, over all maps, and small cases that are computed.
 
-ghost use Rattle.std.specs.Prelude.{◌≡◌, true, false, [], ◌∷◌, Ok, Err};
+ghost use Rattle.std.specs.Prelude.{◌≡◌, true, false, List, [], ◌∷◌, Ok, Err, Option, Contains};
 ghost use Rattle.je_desc.specs.FieldType.{Base, Object, Array, Int, Long};
+ghost use Rattle.je_world.specs.declared.link.Link.{Link};
 ghost use Rattle.je_world.specs.declared.link.Link.TheVariants.{NotFound, Broken, Cycle};
 ghost use Rattle.je_world.specs.Sample.{object, a, b, c, d, e, f, g, i, j, k, p, q};
 ghost use Rattle.je_world.specs.Sample.{missing, broken};
+ghost use Rattle.je_world.specs.Question.{Name, Map, names_by};
+ghost use Rattle.je_world.specs.Walk.{IsWalk};
+ghost use Rattle.je_members.specs.OnWalk.{come_to};
 ghost use Rattle.je_members.specs.Subtype.{subtype, assignable};
 ghost use Rattle.je_members.specs.Common.{common_super};
 ghost use Rattle.je_members.specs.Sample.{asked_of, face, cloneable, serializable};
 ghost use Rattle.je_members.specs.Sample.{ints, array_of};
+
+/// A question looks at names of the walks of its classes, and at no others.
+pub fn questions_stay_on_walks()
+    ensures subtype { (map : Map) (sub sup : Name) (names : List Name) (end : Option Link) →
+        IsWalk map sub names end → (x : Name) → Contains (names_by map (subtype sub sup)) x
+        → Contains (come_to names end) x }
+    ensures assignable { (map : Map) (sub sup : Name) (names : List Name) (end : Option Link) →
+        IsWalk map sub names end → (x : Name)
+        → Contains (names_by map (assignable (Object sub) (Object sup))) x
+        → Contains (come_to names end) x }
+{}
 
 /// Subtypes, with the names that are looked at (JLS 4.10.2).
 pub fn small_subtypes()
