@@ -1,1 +1,3 @@
 pub mod SubtypeLemmas
+pub mod WalkClassLemmas
+pub mod DecisionLemmas

@@ -6,13 +6,21 @@ ghost use Rattle.je_world.specs.declared.link.Link.{Link};
 ghost use Rattle.je_world.specs.declared.link.Link.TheVariants.{NotFound, Broken, Cycle};
 ghost use Rattle.je_world.specs.Sample.{object, a, b, c, d, e, f, g, i, j, k, p, q};
 ghost use Rattle.je_world.specs.Sample.{missing, broken};
-ghost use Rattle.je_world.specs.Question.{Name, Map, names_by};
+ghost use Rattle.je_world.specs.Question.{Name, Map, answer_by, names_by};
 ghost use Rattle.je_world.specs.Walk.{IsWalk};
-ghost use Rattle.je_members.specs.OnWalk.{come_to};
+ghost use Rattle.je_members.specs.OnWalk.{answered, come_to, meets_one};
 ghost use Rattle.je_members.specs.Subtype.{subtype, assignable};
 ghost use Rattle.je_members.specs.Common.{common_super};
 ghost use Rattle.je_members.specs.Sample.{asked_of, face, cloneable, serializable};
 ghost use Rattle.je_members.specs.Sample.{ints, array_of};
+
+/// A class is a subtype exactly of what its walk comes to; of another name it is none, or what is
+/// bad on the walk is the answer.
+pub fn subtypes_follow_walks()
+    ensures { (map : Map) (sub sup : Name) (names : List Name) (end : Option Link) →
+        IsWalk map sub names end → answer_by map (subtype sub sup)
+        ≡ answered (meets_one sup (come_to names end)) end }
+{}
 
 /// A question looks at names of the walks of its classes, and at no others.
 pub fn questions_stay_on_walks()

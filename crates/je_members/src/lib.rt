@@ -6,4 +6,7 @@
 
 mod laws;
 
-pub use laws::{questions_stay_on_walks, small_assignments, small_common_supers, small_subtypes};
+pub use laws::{
+    questions_stay_on_walks, small_assignments, small_common_supers, small_subtypes,
+    subtypes_follow_walks,
+};
