@@ -1,5 +1,5 @@
 -- Which names a search along a walk looks at.
-use Rattle.std.proofs.Common.{◌≡◌, List, [], ◌∷◌, Option, Some, None, Contains, ap, ◌∙◌, subst, inl, inr, ◌⊎◌, arith}
+use Rattle.std.proofs.Common.{◌++◌, ◌≡◌, List, [], ◌∷◌, Option, Some, None, Contains, ap, ◌∙◌, subst, inl, inr, ◌⊎◌, arith}
 use Rattle.std.proofs.lemmas.List.{append-nil}
 use Rattle.std.proofs.lemmas.List.Elements.{Contains-append_left, Contains-append_right, Contains-append_cases, Contains-push_cases}
 use Rattle.je_desc.specs.declared.summary.Summary.{Summary}
@@ -7,11 +7,12 @@ use Rattle.je_world.specs.declared.link.Link.{Link}
 use Rattle.je_world.specs.declared.link.Link.TheVariants.{NotFound, Cycle}
 use Rattle.je_world.specs.declared.link.Link.TheVariants as link
 use Rattle.je_world.specs.Question.{Name, Known, Absent, Broken, IsClass, Map, Answered, names_by}
-use Rattle.je_world.specs.Walk.{IsWalk}
+use Rattle.je_world.specs.Walk.{Class, names_of, most, IsWalk}
 use Rattle.je_world.specs.Search as search
-use Rattle.je_world.specs.Search.{Search, Asked, seeing, meeting, search_over, at_end, walk}
+use Rattle.je_world.specs.Search.{chain, Search, Asked, seeing, meeting, search_over, at_end, walk}
 use Rattle.je_world.proofs.LeadsLemmas.{names_by-then}
-use Rattle.je_world.proofs.WalkLemmas.{along_walk}
+use Rattle.je_world.proofs.WalkLemmas.{along_walk, along_chain}
+use Rattle.je_members.specs.Common.{superclasses, first_above, gone_along, met_or_object}
 use Rattle.je_members.specs.Among.{among}
 use Rattle.je_members.specs.OnWalk.{bad_name, come_to}
 use Rattle.je_members.specs.Subtype.{subtype, was_met}
@@ -78,3 +79,34 @@ subtype_names map sub sup is x h =
     let s = among (sup ∷ []) in
     let whole : names_by map (subtype sub sup) ≡ names_by map (walk s sub) = names_by-then map (walk s sub) (λ end. Answered (was_met end)) ∙ append-nil (names_by map (walk s sub)) in
     walk_names s map is x (subst (λ (l : List Name). Contains l x) whole h)
+
+-- so does one along the superclasses alone
+chain_names : {A : Type 0} (s : Search A) (map : Map) {name : Name} {names : List Name} {end : Option Link} → IsWalk map name names end → (x : Name) → Contains (names_by map (chain s most [] name)) x → Contains (come_to names end) x
+chain_names {A} s map {name} (IsWalk.stopped {classes} {bad} higher) x h =
+    let over : names_by map (chain s most [] name) ≡ (search_over s map (names_of classes) (at_end s (Some bad) classes)).0 = ap (λ (p : Asked (List Class) A). p.0) (along_chain s map higher) in
+    let there = subst (λ (l : List Name). Contains l x) over h in
+    elim (search_names s map (names_of classes) (at_end s (Some bad) classes) x there) [
+      | inl among ↦ Contains-append_left (names_of classes) (bad_name (Some bad)) x among
+      | inr after ↦ Contains-append_right (names_of classes) (bad_name (Some bad)) x (end_names s (Some bad) classes x after)
+    ]
+chain_names {A} s map {name} (IsWalk.through {classes} {others} {end} higher beside) x h =
+    let over : names_by map (chain s most [] name) ≡ (search_over s map (names_of classes) (at_end {N = List Class} s None classes)).0 = ap (λ (p : Asked (List Class) A). p.0) (along_chain s map higher) in
+    let there = subst (λ (l : List Name). Contains l x) over h in
+    elim (search_names s map (names_of classes) (at_end {N = List Class} s None classes) x there) [
+      | inl among ↦ Contains-append_left (names_of classes ++ others) (bad_name end) x (Contains-append_left (names_of classes) others x among)
+      | inr after ↦ none_in x after
+    ]
+
+pub superclass_names : (map : Map) (name : Name) {names : List Name} {end : Option Link} → IsWalk map name names end → (x : Name) → Contains (names_by map (superclasses name)) x → Contains (come_to names end) x
+unfolding superclasses
+superclass_names map name is x h =
+    let s = among [] in
+    let whole : names_by map (superclasses name) ≡ names_by map (chain s most [] name) = names_by-then map (chain s most [] name) (λ end. Answered (gone_along end)) ∙ append-nil (names_by map (chain s most [] name)) in
+    chain_names s map is x (subst (λ (l : List Name). Contains l x) whole h)
+
+pub first_names : (map : Map) (sought : List Name) (name : Name) {names : List Name} {end : Option Link} → IsWalk map name names end → (x : Name) → Contains (names_by map (first_above sought name)) x → Contains (come_to names end) x
+unfolding first_above
+first_names map sought name is x h =
+    let s = among sought in
+    let whole : names_by map (first_above sought name) ≡ names_by map (chain s most [] name) = names_by-then map (chain s most [] name) (λ end. Answered (met_or_object end)) ∙ append-nil (names_by map (chain s most [] name)) in
+    chain_names s map is x (subst (λ (l : List Name). Contains l x) whole h)

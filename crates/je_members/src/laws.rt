@@ -10,7 +10,7 @@ ghost use Rattle.je_world.specs.Question.{Name, Map, answer_by, names_by};
 ghost use Rattle.je_world.specs.Walk.{IsWalk};
 ghost use Rattle.je_members.specs.OnWalk.{answered, come_to, meets_one};
 ghost use Rattle.je_members.specs.Subtype.{subtype, assignable};
-ghost use Rattle.je_members.specs.Common.{common_super};
+ghost use Rattle.je_members.specs.Common.{common_super, first_above, superclasses};
 ghost use Rattle.je_members.specs.Sample.{asked_of, face, cloneable, serializable};
 ghost use Rattle.je_members.specs.Sample.{ints, array_of};
 
@@ -31,6 +31,12 @@ pub fn questions_stay_on_walks()
         IsWalk map sub names end → (x : Name)
         → Contains (names_by map (assignable (Object sub) (Object sup))) x
         → Contains (come_to names end) x }
+    ensures superclasses { (map : Map) (name : Name) (names : List Name) (end : Option Link) →
+        IsWalk map name names end → (x : Name) → Contains (names_by map (superclasses name)) x
+        → Contains (come_to names end) x }
+    ensures first_above { (map : Map) (sought : List Name) (name : Name) (names : List Name)
+        (end : Option Link) → IsWalk map name names end → (x : Name)
+        → Contains (names_by map (first_above sought name)) x → Contains (come_to names end) x }
 {}
 
 /// Subtypes, with the names that are looked at (JLS 4.10.2).
