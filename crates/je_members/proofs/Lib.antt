@@ -1,3 +1,6 @@
 pub mod SubtypeLemmas
 pub mod WalkClassLemmas
 pub mod DecisionLemmas
+pub mod KinLemmas
+pub mod StepLemmas
+pub mod ChainLemmas

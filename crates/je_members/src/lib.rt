@@ -4,7 +4,12 @@
 //! in which order, and what comes of the answers.
 #![tactic(auto)]
 
+mod chain;
+mod copies;
+mod ending;
+mod kin;
 mod laws;
+mod meet;
 
 pub use laws::{
     questions_stay_on_walks, small_assignments, small_common_supers, small_subtypes,
