@@ -15,8 +15,8 @@ use Rattle.je_members.specs.declared.kin.Kin.{Kin}
 use Rattle.je_members.specs.declared.ending.Step.{Step}
 use Rattle.je_members.specs.declared.ending.Step.TheVariants.{Bad, Met, Into}
 use Rattle.je_members.specs.Among.{among}
-use Rattle.je_members.specs.Step.{meet}
-use Rattle.je_members.proofs.StepLemmas.{on_step, met_same}
+use Rattle.je_members.specs.Step.{meet, on_step}
+use Rattle.je_members.proofs.StepLemmas.{met_same}
 
 -- what is asked on behind a class
 abbrev pub up : List Name → ℕ → List Class → Name → Kin → Question (search.Ending (List Class) Name)

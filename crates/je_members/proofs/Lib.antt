@@ -4,3 +4,4 @@ pub mod DecisionLemmas
 pub mod KinLemmas
 pub mod StepLemmas
 pub mod ChainLemmas
+pub mod AboveLemmas

@@ -15,7 +15,7 @@ use Rattle.je_members.specs.declared.ending.Step.{Step}
 use Rattle.je_members.specs.declared.ending.Step.TheVariants.{Bad, Met, Into}
 use Rattle.je_members.specs.Among.{among, found}
 use Rattle.je_members.specs.Kin.{kin_of, kin_at}
-use Rattle.je_members.specs.Step.{meet, came}
+use Rattle.je_members.specs.Step.{meet, came, on_step}
 
 -- ---- a name is sought
 
@@ -38,11 +38,6 @@ looked_broken {old} {new} sought name why is h =
     rw is (breaks_in (λ k. Answered (came k)) why h)
 
 -- ---- the search goes on
-
-abbrev pub on_step : {N : Type 0} → (Kin → Question (search.Ending N Name)) → Step → Question (search.Ending N Name)
-on_step next (Bad bad) = Answered (search.Bad bad)
-on_step next (Met name) = Answered (search.Decided name)
-on_step next (Into kin) = next kin
 
 after_look : {N : Type 0} (name : Name) (next : Kin → Question (search.Ending N Name)) (known : Known) → seen_then name (λ class. None) (λ class. next (kin_of class)) known ≡ on_step next (came (found name kin_of known))
 after_look name next Absent = refl

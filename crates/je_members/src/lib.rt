@@ -4,6 +4,7 @@
 //! in which order, and what comes of the answers.
 #![tactic(auto)]
 
+mod above;
 mod chain;
 mod copies;
 mod ending;
