@@ -5,3 +5,5 @@ pub mod KinLemmas
 pub mod StepLemmas
 pub mod ChainLemmas
 pub mod AboveLemmas
+pub mod WalkLemmas
+pub mod CallLemmas

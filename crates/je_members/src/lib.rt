@@ -11,8 +11,11 @@ mod ending;
 mod kin;
 mod laws;
 mod meet;
+mod subtype;
+mod walk;
 
 pub use laws::{
     questions_stay_on_walks, small_assignments, small_common_supers, small_subtypes,
     subtypes_follow_walks,
 };
+pub use subtype::is_subtype;
