@@ -7,3 +7,4 @@ pub mod ChainLemmas
 pub mod AboveLemmas
 pub mod WalkLemmas
 pub mod CallLemmas
+pub mod ReadLemmas

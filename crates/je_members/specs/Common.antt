@@ -39,13 +39,20 @@ unfoldable pub first_above : List Name → Name → Question (Result Name Link)
 first_above names name =
     and_then (chain (among names) most [] name) (λ end. Answered (met_or_object end))
 
+-- of two classes that are no interfaces
+abbrev pub first_of_both : Name → Name → Question (Result Name Link)
+first_of_both a b = try_then (superclasses b) (λ names. first_above names a)
+
+-- of two of which the first is no interface
+abbrev pub below_second : Name → Name → Question (Result Name Link)
+below_second a b =
+    try_then (asks_interface b) (λ yes. cond yes (Answered (Ok object)) (first_of_both a b))
+
 -- The first class on the way up from the first that is on the way up from the second, which is gone
 -- to its end before; `java/lang/Object` where either is an interface.
 unfoldable pub common_class : Name → Name → Question (Result Name Link)
 common_class a b =
-    try_then (asks_interface a) (λ yes. cond yes (Answered (Ok object))
-    (try_then (asks_interface b) (λ yes. cond yes (Answered (Ok object))
-    (try_then (superclasses b) (λ names. first_above names a)))))
+    try_then (asks_interface a) (λ yes. cond yes (Answered (Ok object)) (below_second a b))
 
 -- the same type
 abbrev pub is_same_type : FieldType → FieldType → Bool

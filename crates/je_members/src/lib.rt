@@ -6,6 +6,7 @@
 
 mod above;
 mod chain;
+mod common;
 mod copies;
 mod ending;
 mod kin;
@@ -14,6 +15,7 @@ mod meet;
 mod subtype;
 mod walk;
 
+pub use common::common_class;
 pub use laws::{
     questions_stay_on_walks, small_assignments, small_common_supers, small_subtypes,
     subtypes_follow_walks,
