@@ -1,10 +1,9 @@
 -- A search along interfaces, name by name.
-use Rattle.std.proofs.Common.{◌≡◌, ℕ, zero, suc, Bool, true, false, cond, List, [], ◌∷◌, ◌++◌, Option, Some, None, Result, Ok, Err, IfOk, IfErr, ap, sym, subst, refl, ◌∙◌, length, arith}
-use Rattle.je_world.specs.declared.link.Link.{Link}
+use Rattle.std.proofs.Common.{◌≡◌, ℕ, zero, suc, Bool, true, false, cond, List, [], ◌∷◌, ◌++◌, Option, Some, None, Result, Ok, Err, IfOk, IfErr, sym, subst, refl, ◌∙◌, length, arith}
 use Rattle.je_world.specs.declared.link.Link.TheVariants.{Cycle}
 use Rattle.je_world.specs.declared.stop.Stop.{Stop}
 use Rattle.je_world.specs.declared.stop.Stop.TheVariants.{Memory}
-use Rattle.je_world.specs.Question.{Name, Known, Question, Answered, Look, and_then}
+use Rattle.je_world.specs.Question.{Name, Question, Answered, Look, and_then}
 use Rattle.je_world.specs.Seen.{Seen, Leads, Breaks, Gives}
 use Rattle.je_world.specs.World.{is_listed}
 use Rattle.je_world.specs.Search as search

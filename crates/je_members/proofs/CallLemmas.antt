@@ -1,7 +1,7 @@
 -- What a question over a walk comes to, from how the search ends.
-use Rattle.std.proofs.Common.{◌≡◌, Bool, List, [], ◌∷◌, Result, Ok, Err}
+use Rattle.std.proofs.Common.{List, [], ◌∷◌}
 use Rattle.je_world.specs.declared.stop.Stop.{Stop}
-use Rattle.je_world.specs.Question.{Name, Question, Answered, and_then}
+use Rattle.je_world.specs.Question.{Name, Answered}
 use Rattle.je_world.specs.Seen.{Seen, Leads, Breaks}
 use Rattle.je_world.specs.Walk.{Class, most}
 use Rattle.je_world.specs.Search as search

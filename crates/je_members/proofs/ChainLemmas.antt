@@ -1,9 +1,7 @@
 -- A search along superclasses, class by class.
-use Rattle.std.proofs.Common.{◌≡◌, ℕ, zero, suc, Bool, true, false, List, [], ◌∷◌, ◌++◌, Option, Some, None, ap, sym, subst}
-use Rattle.je_world.specs.declared.link.Link.{Link}
+use Rattle.std.proofs.Common.{◌≡◌, ℕ, zero, suc, true, false, List, [], ◌∷◌, ◌++◌, Option, Some, None, sym, subst}
 use Rattle.je_world.specs.declared.link.Link.TheVariants.{Cycle}
 use Rattle.je_world.specs.declared.stop.Stop.{Stop}
-use Rattle.je_world.specs.declared.stop.Stop.TheVariants.{Memory}
 use Rattle.je_world.specs.Question.{Name, Question, Answered, and_then}
 use Rattle.je_world.specs.Seen.{Seen, Leads, Breaks}
 use Rattle.je_world.specs.World.{is_listed}
@@ -13,7 +11,7 @@ use Rattle.je_world.specs.Search.{chain, on_to}
 use Rattle.je_world.proofs.LeadsLemmas.{leads_then, leads_on, leads_here, breaks_in, breaks_on}
 use Rattle.je_members.specs.declared.kin.Kin.{Kin}
 use Rattle.je_members.specs.declared.ending.Step.{Step}
-use Rattle.je_members.specs.declared.ending.Step.TheVariants.{Bad, Met, Into}
+use Rattle.je_members.specs.declared.ending.Step.TheVariants.{Into}
 use Rattle.je_members.specs.Among.{among}
 use Rattle.je_members.specs.Step.{meet, on_step}
 use Rattle.je_members.proofs.StepLemmas.{met_same}

@@ -1,10 +1,9 @@
 -- What a look at a class comes to.
-use Rattle.std.proofs.Common.{◌≡◌, Result, Ok, Err, ap, sym, subst}
+use Rattle.std.proofs.Common.{◌≡◌, Ok, Err, sym, subst}
 use Rattle.je_desc.specs.declared.summary.Summary.{Summary}
-use Rattle.je_world.specs.declared.link.Link.{Link}
 use Rattle.je_world.specs.declared.link.Link.TheVariants as link
 use Rattle.je_world.specs.declared.stop.Stop.{Stop}
-use Rattle.je_world.specs.declared.stop.Stop.TheVariants.{Failed, Memory}
+use Rattle.je_world.specs.declared.stop.Stop.TheVariants.{Memory}
 use Rattle.je_world.specs.Question.{Name, Known, Absent, Broken, IsClass, Answered}
 use Rattle.je_world.specs.Seen.{Seen, Leads, Breaks}
 use Rattle.je_world.specs.World.{Looks}
@@ -12,7 +11,6 @@ use Rattle.je_world.proofs.LeadsLemmas.{leads_look, breaks_look, no_memory}
 use Rattle.je_members.specs.declared.kin.Kin.{Kin}
 use Rattle.je_members.specs.Among.{found}
 use Rattle.je_members.specs.Kin.{kin_at, kin_of}
-
 
 pub kin_is : {old new : Seen} {name : Name} (class : Summary) {kin : Kin} → kin ≡ kin_of class → Looks name old (Ok (IsClass class)) new → Leads old (kin_at name) new (Answered (Ok kin))
 kin_is {old} {new} {name} class same h =

@@ -1,6 +1,5 @@
 -- What a name that is met comes to, in the searches of a world.
-use Rattle.std.proofs.Common.{◌≡◌, Bool, true, false, cond, List, [], ◌∷◌, ◌++◌, Option, Some, None, Result, Ok, Err, ap, sym, subst, refl, ◌∙◌}
-use Rattle.je_desc.specs.declared.summary.Summary.{Summary}
+use Rattle.std.proofs.Common.{◌≡◌, Bool, true, false, cond, List, Some, None, Result, refl}
 use Rattle.je_world.specs.declared.link.Link.{Link}
 use Rattle.je_world.specs.declared.stop.Stop.{Stop}
 use Rattle.je_world.specs.declared.stop.Stop.TheVariants.{Memory}
@@ -11,8 +10,7 @@ use Rattle.je_world.specs.Search as search
 use Rattle.je_world.specs.Search.{met_then, meet_by, seen_then}
 use Rattle.je_world.proofs.LeadsLemmas.{leads_then, breaks_in, leads_here, no_memory}
 use Rattle.je_members.specs.declared.kin.Kin.{Kin}
-use Rattle.je_members.specs.declared.ending.Step.{Step}
-use Rattle.je_members.specs.declared.ending.Step.TheVariants.{Bad, Met, Into}
+use Rattle.je_members.specs.declared.ending.Step.TheVariants.{Met}
 use Rattle.je_members.specs.Among.{among, found}
 use Rattle.je_members.specs.Kin.{kin_of, kin_at}
 use Rattle.je_members.specs.Step.{meet, came, on_step}

@@ -86,10 +86,7 @@ fn object_found(alloc: Global) -> Result<Result<Text, Link>, Stop>
 }
 
 /// Whether the class of this name is an interface.
-fn asks_interface<W: World>(
-    world: &mut W,
-    name: &Text,
-) -> Result<Result<bool, Link>, Stop>
+fn asks_interface<W: World>(world: &mut W, name: &Text) -> Result<Result<bool, Link>, Stop>
     ensures { Gives (W.seen world.old) (asks_interface name.now) (W.seen world.new) result }
 {
     match world.look(name) {

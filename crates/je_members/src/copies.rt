@@ -18,11 +18,7 @@ pub(crate) fn copy_names(alloc: Global, names: &[Text]) -> Result<Items<Text>, M
 }
 
 /// The names with this one before them.
-pub(crate) fn put_before(
-    alloc: Global,
-    name: &Text,
-    names: &[Text],
-) -> Result<Items<Text>, Memory>
+pub(crate) fn put_before(alloc: Global, name: &Text, names: &[Text]) -> Result<Items<Text>, Memory>
     ensures { IfOk result (λ all. all ≡ name.now ∷ names.now) }
 {
     let mut all = Items::new(alloc);

@@ -1,4 +1,4 @@
-use Rattle.std.proofs.Common.{◌≡◌, ◌-◌, Some, None, arith}
+use Rattle.std.proofs.Common.{◌-◌, Some, None, arith}
 use Rattle.je_world.specs.Search as search
 use Rattle.je_world.proofs.LeadsLemmas.{no_memory, gives_on}
 use Rattle.je_members.specs.declared.ending.Step.TheVariants.{Bad, Met, Into}

@@ -1,4 +1,4 @@
-use Rattle.std.proofs.Common.{◌≡◌, ◌∙◌, sym}
+use Rattle.std.proofs.Common.{◌∙◌, sym}
 use Rattle.je_members.proofs.AboveLemmas.{above_itself, was_before, met_now, met_breaks}
 use Rattle.je_members.proofs.above.step.Goals as goal
 

@@ -1,4 +1,4 @@
-use Rattle.std.proofs.Common.{◌≡◌, ◌∙◌, ◌-◌, sym, arith}
+use Rattle.std.proofs.Common.{◌-◌, arith}
 use Rattle.je_world.proofs.LeadsLemmas.{no_memory}
 use Rattle.je_members.specs.declared.ending.Step.TheVariants.{Bad, Met, Into}
 use Rattle.je_members.proofs.ChainLemmas.{begins, rises, rise_breaks, again, too_high, higher, at_top}

@@ -1,4 +1,3 @@
-use Rattle.std.proofs.Common.{◌≡◌}
 use Rattle.je_world.specs.declared.stop.Stop.TheVariants.{Failed, Memory}
 use Rattle.je_world.specs.Question.{Absent, Broken}
 use Rattle.je_members.specs.Common.{is_interface}

@@ -1,7 +1,7 @@
-use Rattle.std.proofs.Common.{◌≡◌, cond, true, false, Ok, Err}
+use Rattle.std.proofs.Common.{cond, true, false, Ok, Err}
 use Rattle.je_world.specs.Question.{Answered}
 use Rattle.je_world.proofs.LeadsLemmas.{gives_on}
-use Rattle.je_members.specs.Common.{common_class, below_second, first_of_both, asks_interface, object}
+use Rattle.je_members.specs.Common.{common_class, below_second, asks_interface, object}
 use Rattle.je_members.proofs.ReadLemmas.{tried, try_breaks, found_object}
 use Rattle.je_members.proofs.common.common_class.Goals as goal
 

@@ -1,4 +1,3 @@
-use Rattle.std.proofs.Common.{◌≡◌}
 use Rattle.je_world.specs.Search as search
 use Rattle.je_members.proofs.CallLemmas.{first_met, first_breaks}
 use Rattle.je_members.proofs.ReadLemmas.{found_object}

@@ -1,5 +1,4 @@
-use Rattle.std.proofs.Common.{◌≡◌, Ok, Err}
-use Rattle.je_world.specs.Question.{Name}
+use Rattle.std.proofs.Common.{Ok, Err}
 use Rattle.je_world.proofs.LeadsLemmas.{gives_on}
 use Rattle.je_members.specs.Common.{superclasses, first_above}
 use Rattle.je_members.proofs.ReadLemmas.{tried, try_breaks}

@@ -1,4 +1,4 @@
-use Rattle.std.proofs.Common.{◌≡◌, Ok, ap}
+use Rattle.std.proofs.Common.{Ok, ap}
 use Rattle.std.specs.Str.{chars}
 use Rattle.je_world.specs.Question.{Name}
 use Rattle.je_members.proofs.common.object_found.Goals as goal

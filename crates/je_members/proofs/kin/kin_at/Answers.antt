@@ -1,4 +1,3 @@
-use Rattle.std.proofs.Common.{◌≡◌}
 use Rattle.je_world.specs.declared.stop.Stop.TheVariants.{Failed, Memory}
 use Rattle.je_world.specs.Question.{Absent, Broken, IsClass}
 use Rattle.je_members.proofs.KinLemmas.{kin_is, kin_none, kin_broken, kin_full, kin_stops}

@@ -1,5 +1,5 @@
-use Rattle.std.proofs.Common.{◌≡◌, ◌∙◌, sym, Ok, Err}
-use Rattle.je_members.proofs.StepLemmas.{sought_is, sought_full, looked_at, looked_broken}
+use Rattle.std.proofs.Common.{◌∙◌, sym, Ok, Err}
+use Rattle.je_members.proofs.StepLemmas.{sought_is, looked_at, looked_broken}
 use Rattle.je_members.proofs.meet.meet.Goals as goal
 
 pub returns-in-Ok : goal.returns-in-Ok

@@ -1,4 +1,3 @@
-use Rattle.std.proofs.Common.{◌≡◌}
 use Rattle.je_world.specs.Search as search
 use Rattle.je_members.proofs.CallLemmas.{subtyped, subtype_breaks}
 use Rattle.je_members.proofs.subtype.is_subtype.Goals as goal

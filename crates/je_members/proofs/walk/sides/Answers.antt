@@ -1,4 +1,3 @@
-use Rattle.std.proofs.Common.{◌≡◌}
 use Rattle.je_world.specs.Search as search
 use Rattle.je_world.proofs.LeadsLemmas.{no_memory}
 use Rattle.je_members.proofs.WalkLemmas.{side_by, side_breaks, all_sides}
