@@ -1,4 +1,4 @@
--- How searches for names end.
+-- Serves private functions: how searches for names end.
 use Rattle.std.specs.Prelude.{Result, Ok, Err}
 use Rattle.je_world.specs.declared.stop.Stop.{Stop}
 use Rattle.je_world.specs.Question.{Name}

@@ -1,4 +1,4 @@
--- What is asked of a class: what stands directly above it.
+-- Serves private functions: what is asked of a class, what stands directly above it.
 use Rattle.std.specs.Prelude.{Result}
 use Rattle.je_desc.specs.declared.summary.Summary.{Summary}
 use Rattle.je_world.specs.declared.link.Link.{Link}
