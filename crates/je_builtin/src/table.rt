@@ -1,0 +1,440 @@
+//! The table of built-in classes.
+
+use crate::row::{Class, Member};
+
+/// `ACC_PUBLIC`, with `ACC_SUPER` (JVMS 4.1, Table 4.1-A).
+const CLASS: u16 = 0x0021;
+
+/// A class with `ACC_ABSTRACT`.
+const ABSTRACT_CLASS: u16 = 0x0421;
+
+/// `ACC_PUBLIC`, `ACC_INTERFACE` and `ACC_ABSTRACT`.
+const INTERFACE: u16 = 0x0601;
+
+/// A member with `ACC_PUBLIC` (JVMS 4.5 and 4.6).
+const PUBLIC: u16 = 0x0001;
+
+/// `ACC_PUBLIC` and `ACC_STATIC`.
+const STATIC: u16 = 0x0009;
+
+/// A method with `ACC_PUBLIC` and `ACC_ABSTRACT`.
+const ABSTRACT: u16 = 0x0401;
+
+/// The constructors of what is thrown.
+const BOTH_CONSTRUCTORS: [Member; 2] = [
+    (PUBLIC, "<init>", "()V"),
+    (PUBLIC, "<init>", "(Ljava/lang/String;)V"),
+];
+
+/// The built-in classes.
+pub static CLASSES: [Class; 38] = [
+    (
+        "java/lang/Object",
+        None,
+        &[],
+        CLASS,
+        &[],
+        &[
+            (PUBLIC, "<init>", "()V"),
+            (PUBLIC, "equals", "(Ljava/lang/Object;)Z"),
+            (PUBLIC, "hashCode", "()I"),
+            (PUBLIC, "toString", "()Ljava/lang/String;"),
+            (PUBLIC, "getClass", "()Ljava/lang/Class;"),
+        ],
+    ),
+    (
+        "java/lang/String",
+        Some("java/lang/Object"),
+        &[
+            "java/lang/Comparable",
+            "java/lang/CharSequence",
+            "java/io/Serializable",
+        ],
+        CLASS,
+        &[],
+        &[
+            (PUBLIC, "length", "()I"),
+            (PUBLIC, "charAt", "(I)C"),
+            (PUBLIC, "isEmpty", "()Z"),
+            (PUBLIC, "concat", "(Ljava/lang/String;)Ljava/lang/String;"),
+            (PUBLIC, "equals", "(Ljava/lang/Object;)Z"),
+            (STATIC, "valueOf", "(I)Ljava/lang/String;"),
+            (STATIC, "valueOf", "(J)Ljava/lang/String;"),
+            (STATIC, "valueOf", "(Z)Ljava/lang/String;"),
+            (STATIC, "valueOf", "(C)Ljava/lang/String;"),
+            (STATIC, "valueOf", "(Ljava/lang/Object;)Ljava/lang/String;"),
+        ],
+    ),
+    (
+        "java/lang/StringBuilder",
+        Some("java/lang/Object"),
+        &["java/lang/CharSequence", "java/io/Serializable"],
+        CLASS,
+        &[],
+        &[
+            (PUBLIC, "<init>", "()V"),
+            (PUBLIC, "append", "(Z)Ljava/lang/StringBuilder;"),
+            (PUBLIC, "append", "(C)Ljava/lang/StringBuilder;"),
+            (PUBLIC, "append", "(I)Ljava/lang/StringBuilder;"),
+            (PUBLIC, "append", "(J)Ljava/lang/StringBuilder;"),
+            (PUBLIC, "append", "(F)Ljava/lang/StringBuilder;"),
+            (PUBLIC, "append", "(D)Ljava/lang/StringBuilder;"),
+            (
+                PUBLIC,
+                "append",
+                "(Ljava/lang/String;)Ljava/lang/StringBuilder;",
+            ),
+            (
+                PUBLIC,
+                "append",
+                "(Ljava/lang/Object;)Ljava/lang/StringBuilder;",
+            ),
+            (PUBLIC, "toString", "()Ljava/lang/String;"),
+        ],
+    ),
+    (
+        "java/lang/Number",
+        Some("java/lang/Object"),
+        &["java/io/Serializable"],
+        ABSTRACT_CLASS,
+        &[],
+        &[(PUBLIC, "intValue", "()I"), (PUBLIC, "longValue", "()J")],
+    ),
+    (
+        "java/lang/Integer",
+        Some("java/lang/Number"),
+        &["java/lang/Comparable"],
+        CLASS,
+        &[(STATIC, "TYPE", "Ljava/lang/Class;")],
+        &[
+            (STATIC, "valueOf", "(I)Ljava/lang/Integer;"),
+            (PUBLIC, "intValue", "()I"),
+        ],
+    ),
+    (
+        "java/lang/Long",
+        Some("java/lang/Number"),
+        &["java/lang/Comparable"],
+        CLASS,
+        &[(STATIC, "TYPE", "Ljava/lang/Class;")],
+        &[
+            (STATIC, "valueOf", "(J)Ljava/lang/Long;"),
+            (PUBLIC, "longValue", "()J"),
+        ],
+    ),
+    (
+        "java/lang/Short",
+        Some("java/lang/Number"),
+        &["java/lang/Comparable"],
+        CLASS,
+        &[(STATIC, "TYPE", "Ljava/lang/Class;")],
+        &[
+            (STATIC, "valueOf", "(S)Ljava/lang/Short;"),
+            (PUBLIC, "shortValue", "()S"),
+        ],
+    ),
+    (
+        "java/lang/Byte",
+        Some("java/lang/Number"),
+        &["java/lang/Comparable"],
+        CLASS,
+        &[(STATIC, "TYPE", "Ljava/lang/Class;")],
+        &[
+            (STATIC, "valueOf", "(B)Ljava/lang/Byte;"),
+            (PUBLIC, "byteValue", "()B"),
+        ],
+    ),
+    (
+        "java/lang/Float",
+        Some("java/lang/Number"),
+        &["java/lang/Comparable"],
+        CLASS,
+        &[(STATIC, "TYPE", "Ljava/lang/Class;")],
+        &[
+            (STATIC, "valueOf", "(F)Ljava/lang/Float;"),
+            (PUBLIC, "floatValue", "()F"),
+        ],
+    ),
+    (
+        "java/lang/Double",
+        Some("java/lang/Number"),
+        &["java/lang/Comparable"],
+        CLASS,
+        &[(STATIC, "TYPE", "Ljava/lang/Class;")],
+        &[
+            (STATIC, "valueOf", "(D)Ljava/lang/Double;"),
+            (PUBLIC, "doubleValue", "()D"),
+        ],
+    ),
+    (
+        "java/lang/Character",
+        Some("java/lang/Object"),
+        &["java/lang/Comparable", "java/io/Serializable"],
+        CLASS,
+        &[(STATIC, "TYPE", "Ljava/lang/Class;")],
+        &[
+            (STATIC, "valueOf", "(C)Ljava/lang/Character;"),
+            (PUBLIC, "charValue", "()C"),
+        ],
+    ),
+    (
+        "java/lang/Boolean",
+        Some("java/lang/Object"),
+        &["java/lang/Comparable", "java/io/Serializable"],
+        CLASS,
+        &[(STATIC, "TYPE", "Ljava/lang/Class;")],
+        &[
+            (STATIC, "valueOf", "(Z)Ljava/lang/Boolean;"),
+            (PUBLIC, "booleanValue", "()Z"),
+        ],
+    ),
+    (
+        "java/lang/Void",
+        Some("java/lang/Object"),
+        &[],
+        CLASS,
+        &[(STATIC, "TYPE", "Ljava/lang/Class;")],
+        &[],
+    ),
+    (
+        "java/lang/Math",
+        Some("java/lang/Object"),
+        &[],
+        CLASS,
+        &[],
+        &[
+            (STATIC, "abs", "(I)I"),
+            (STATIC, "abs", "(J)J"),
+            (STATIC, "max", "(II)I"),
+            (STATIC, "max", "(JJ)J"),
+            (STATIC, "min", "(II)I"),
+            (STATIC, "min", "(JJ)J"),
+        ],
+    ),
+    (
+        "java/lang/System",
+        Some("java/lang/Object"),
+        &[],
+        CLASS,
+        &[
+            (STATIC, "out", "Ljava/io/PrintStream;"),
+            (STATIC, "err", "Ljava/io/PrintStream;"),
+        ],
+        &[
+            (STATIC, "currentTimeMillis", "()J"),
+            (STATIC, "nanoTime", "()J"),
+            (STATIC, "identityHashCode", "(Ljava/lang/Object;)I"),
+        ],
+    ),
+    (
+        "java/lang/Class",
+        Some("java/lang/Object"),
+        &[],
+        CLASS,
+        &[],
+        &[(PUBLIC, "getName", "()Ljava/lang/String;")],
+    ),
+    (
+        "java/lang/Throwable",
+        Some("java/lang/Object"),
+        &["java/io/Serializable"],
+        CLASS,
+        &[],
+        &[
+            (PUBLIC, "<init>", "()V"),
+            (PUBLIC, "<init>", "(Ljava/lang/String;)V"),
+            (PUBLIC, "getMessage", "()Ljava/lang/String;"),
+            (PUBLIC, "printStackTrace", "()V"),
+        ],
+    ),
+    (
+        "java/lang/Exception",
+        Some("java/lang/Throwable"),
+        &[],
+        CLASS,
+        &[],
+        &BOTH_CONSTRUCTORS,
+    ),
+    (
+        "java/lang/Error",
+        Some("java/lang/Throwable"),
+        &[],
+        CLASS,
+        &[],
+        &BOTH_CONSTRUCTORS,
+    ),
+    (
+        "java/lang/RuntimeException",
+        Some("java/lang/Exception"),
+        &[],
+        CLASS,
+        &[],
+        &BOTH_CONSTRUCTORS,
+    ),
+    (
+        "java/lang/ArithmeticException",
+        Some("java/lang/RuntimeException"),
+        &[],
+        CLASS,
+        &[],
+        &BOTH_CONSTRUCTORS,
+    ),
+    (
+        "java/lang/NullPointerException",
+        Some("java/lang/RuntimeException"),
+        &[],
+        CLASS,
+        &[],
+        &BOTH_CONSTRUCTORS,
+    ),
+    (
+        "java/lang/IllegalArgumentException",
+        Some("java/lang/RuntimeException"),
+        &[],
+        CLASS,
+        &[],
+        &BOTH_CONSTRUCTORS,
+    ),
+    (
+        "java/lang/IllegalStateException",
+        Some("java/lang/RuntimeException"),
+        &[],
+        CLASS,
+        &[],
+        &BOTH_CONSTRUCTORS,
+    ),
+    (
+        "java/lang/IndexOutOfBoundsException",
+        Some("java/lang/RuntimeException"),
+        &[],
+        CLASS,
+        &[],
+        &BOTH_CONSTRUCTORS,
+    ),
+    (
+        "java/lang/NegativeArraySizeException",
+        Some("java/lang/RuntimeException"),
+        &[],
+        CLASS,
+        &[],
+        &BOTH_CONSTRUCTORS,
+    ),
+    (
+        "java/lang/ArrayStoreException",
+        Some("java/lang/RuntimeException"),
+        &[],
+        CLASS,
+        &[],
+        &BOTH_CONSTRUCTORS,
+    ),
+    (
+        "java/lang/ClassCastException",
+        Some("java/lang/RuntimeException"),
+        &[],
+        CLASS,
+        &[],
+        &BOTH_CONSTRUCTORS,
+    ),
+    (
+        "java/lang/UnsupportedOperationException",
+        Some("java/lang/RuntimeException"),
+        &[],
+        CLASS,
+        &[],
+        &BOTH_CONSTRUCTORS,
+    ),
+    (
+        "java/lang/ArrayIndexOutOfBoundsException",
+        Some("java/lang/IndexOutOfBoundsException"),
+        &[],
+        CLASS,
+        &[],
+        &BOTH_CONSTRUCTORS,
+    ),
+    (
+        "java/lang/Comparable",
+        Some("java/lang/Object"),
+        &[],
+        INTERFACE,
+        &[],
+        &[],
+    ),
+    (
+        "java/lang/Cloneable",
+        Some("java/lang/Object"),
+        &[],
+        INTERFACE,
+        &[],
+        &[],
+    ),
+    (
+        "java/io/Serializable",
+        Some("java/lang/Object"),
+        &[],
+        INTERFACE,
+        &[],
+        &[],
+    ),
+    (
+        "java/lang/CharSequence",
+        Some("java/lang/Object"),
+        &[],
+        INTERFACE,
+        &[],
+        &[(ABSTRACT, "length", "()I"), (ABSTRACT, "charAt", "(I)C")],
+    ),
+    (
+        "java/lang/Runnable",
+        Some("java/lang/Object"),
+        &[],
+        INTERFACE,
+        &[],
+        &[(ABSTRACT, "run", "()V")],
+    ),
+    (
+        "java/io/OutputStream",
+        Some("java/lang/Object"),
+        &[],
+        ABSTRACT_CLASS,
+        &[],
+        &[
+            (PUBLIC, "write", "(I)V"),
+            (PUBLIC, "flush", "()V"),
+            (PUBLIC, "close", "()V"),
+        ],
+    ),
+    (
+        "java/io/FilterOutputStream",
+        Some("java/io/OutputStream"),
+        &[],
+        CLASS,
+        &[],
+        &[],
+    ),
+    (
+        "java/io/PrintStream",
+        Some("java/io/FilterOutputStream"),
+        &[],
+        CLASS,
+        &[],
+        &[
+            (PUBLIC, "print", "(Z)V"),
+            (PUBLIC, "print", "(C)V"),
+            (PUBLIC, "print", "(I)V"),
+            (PUBLIC, "print", "(J)V"),
+            (PUBLIC, "print", "(F)V"),
+            (PUBLIC, "print", "(D)V"),
+            (PUBLIC, "print", "(Ljava/lang/String;)V"),
+            (PUBLIC, "print", "(Ljava/lang/Object;)V"),
+            (PUBLIC, "println", "(Z)V"),
+            (PUBLIC, "println", "(C)V"),
+            (PUBLIC, "println", "(I)V"),
+            (PUBLIC, "println", "(J)V"),
+            (PUBLIC, "println", "(F)V"),
+            (PUBLIC, "println", "(D)V"),
+            (PUBLIC, "println", "(Ljava/lang/String;)V"),
+            (PUBLIC, "println", "(Ljava/lang/Object;)V"),
+            (PUBLIC, "println", "()V"),
+        ],
+    ),
+];
