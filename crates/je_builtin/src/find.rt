@@ -1,7 +1,8 @@
 //! The built-in classes, by their names.
 
-ghost use Rattle.std.specs.Prelude.{◌≡◌, map, IfOk};
+ghost use Rattle.std.specs.Prelude.{◌≡◌, map, IfOk, IfSome, All};
 ghost use Rattle.je_base.specs.Text.{is_same_text};
+ghost use Rattle.je_desc.specs.Fit.{IsFit};
 ghost use Rattle.je_builtin.specs.BuiltIns.{built_ins, built_in, class_named};
 ghost use Rattle.je_builtin.specs.Rows.{summary_of};
 
@@ -14,7 +15,8 @@ use std::alloc::Global;
 
 /// The rows of the table.
 fn table() -> &'static [Class]
-    ensures { map summary_of result.now ≡ built_ins }
+    ensures rows { map summary_of result.now ≡ built_ins }
+    ensures fit { All IsFit built_ins }
 {
     &CLASSES
 }
@@ -45,7 +47,9 @@ fn class_in(alloc: Global, rows: &[Class], name: &Text) -> Result<Option<Summary
 ///
 /// `Memory` where memory runs out.
 pub fn built_in(alloc: Global, name: &Text) -> Result<Option<Summary>, Memory>
-    ensures { IfOk result (λ found. found ≡ built_in name.now) }
+    ensures found { IfOk result (λ found. found ≡ built_in name.now) }
+    ensures named { IfOk result (λ found. IfSome found (λ class. class.name ≡ name.now)) }
+    ensures fit { IfOk result (λ found. IfSome found IsFit) }
 {
     class_in(alloc, table(), name)
 }
@@ -67,7 +71,8 @@ fn classes_of(alloc: Global, rows: &[Class]) -> Result<Vec<Summary>, Memory>
 ///
 /// `Memory` where memory runs out.
 pub fn built_ins(alloc: Global) -> Result<Vec<Summary>, Memory>
-    ensures { IfOk result (λ classes. classes.items ≡ built_ins) }
+    ensures classes { IfOk result (λ classes. classes.items ≡ built_ins) }
+    ensures fit { IfOk result (λ classes. All IsFit classes.items) }
 {
     classes_of(alloc, table())
 }
