@@ -1,6 +1,6 @@
 -- A class more in a pool leaves what is found, where it is what the files tell.
 use Rattle.std.proofs.Common.{◌≡◌, ℕ, ◌≤◌, ◌↔◌, Bool, true, false, cond, List, [], ◌∷◌, ◌++◌, length, Option, Some, None, refl, sym, ap, ◌∙◌, subst}
-use Rattle.std.specs.Prelude.{slice_get}
+use Rattle.std.specs.Prelude.{slice_get, is_some, ◌||◌}
 use Rattle.std.specs.Option.{option_or}
 use Rattle.std.proofs.lemmas.Slice.Eq.{slice_eq-Decides}
 use Rattle.std.proofs.lemmas.Bool.Decides.{Decides-eqb}
@@ -14,7 +14,8 @@ use Rattle.je_class.specs.ClassBytes.{ClassBytes}
 use Rattle.je_class.specs.Faults.{FirstFault}
 use Rattle.je_world.specs.Question.{Name}
 use Rattle.je_pool.specs.Found.{Found, Nothing, IsClass, BadClass, WrongName, IsNamed, FileIs, FileTells, WorldOf, file_of}
-use Rattle.je_pool.specs.Pool.{PoolState, kept, is_name, FoundBy, SameWorld, with_class}
+use Rattle.je_world.specs.World.{is_listed}
+use Rattle.je_pool.specs.Pool.{PoolState, kept, is_name, is_taken, name_at, FoundBy, FoundWith, Puts, SameWorld, with_class}
 
 -- bytes are one class file or have one first fault
 pub record OneClass : Type 0 where
@@ -131,3 +132,32 @@ same_world files old new roots classes = λ name found.
     let P : List Class × List (List ℕ) → Type 0 = λ p. FoundBy (kept name old.classes) (WorldOf files old.roots name) found ↔ FoundBy (kept name p.0) (WorldOf files p.1 name) found in
     let pair : (old.classes, old.roots) ≡ (new.classes, new.roots) = ap (λ (cs : List Class). (cs, old.roots)) (sym classes) ∙ ap (λ (rs : List (List ℕ)). (new.classes, rs)) (sym roots) in
     subst P pair (λ h. h, λ h. h)
+
+-- ---- a class that is put
+
+put : (Told : Found → Type 0) (o : Option Class) (c : Class) (found : Found) (b : Bool) → (b ≡ true → o ≡ None) → FoundBy (option_or o (cond b (Some c) None)) Told found ↔ FoundWith b c (FoundBy o Told) found
+put Told (Some d) c found false none = (λ h. h, λ h. h)
+put Told None c found false none = (λ h. h, λ h. h)
+put Told (Some d) c found true none = let e : Some d ≡ None = none refl in absurd cc
+put Told None c found true none = (λ h. h, λ h. h)
+
+none_under : (name : Name) (classes : List Class) (own : Option Name) → ((n : Name) → own ≡ Some n → kept n classes ≡ None) → is_name name own ≡ true → kept name classes ≡ None
+none_under name classes None none is = absurd cc
+none_under name classes (Some own) none is = subst (λ (n : Name). kept n classes ≡ None) (same_text own name is) (none own refl)
+
+free_none : (o : Option Class) (b : Bool) → (is_some o || b) ≡ false → o ≡ None
+free_none None b free = refl
+free_none (Some c) b free = absurd cc
+
+puts_more : (pool : PoolState) (c : Class) → ((own : Name) → name_at c ≡ Some own → kept own pool.classes ≡ None) → Puts pool c (with_class pool c)
+puts_more pool c none = λ files name found.
+    let Told = WorldOf files pool.roots name in
+    let step = put Told (kept name pool.classes) c found (is_name name (name_at c)) (none_under name pool.classes (name_at c) none) in
+    let Q : Option Class → Type 0 = λ o. FoundBy o Told found ↔ FoundWith (is_name name (name_at c)) c (FoundBy (kept name pool.classes) Told) found in
+    subst Q (sym (kept_more name pool.classes c)) step
+
+-- a class that is added under a name that is free
+pub puts_added : (old new : PoolState) (c : Class) → new ≡ with_class old c → ((own : Name) → name_at c ≡ Some own → is_taken old own ≡ false) → Puts old c new
+puts_added old new c is free =
+    let P : PoolState → Type 0 = λ s. Puts old c s in
+    subst P (sym is) (puts_more old c (λ own named. free_none (kept own old.classes) (is_listed own old.asked) (free own named)))

@@ -1,7 +1,7 @@
 -- A pool: classes that are kept, over folders of class files.
 use Rattle.std.specs.Prelude.{◌≡◌, ℕ, Bool, false, List, [], ◌∷◌, ◌++◌, ◌↔◌, slice_get}
 use Rattle.std.specs.Prelude.{Option, Some, None, Result, Ok, Err, IsSomeAnd, if◌then◌else◌}
-use Rattle.std.specs.Prelude.{slice_set, is_some, ◌||◌}
+use Rattle.std.specs.Prelude.{slice_set, is_some, ◌||◌, true}
 use Rattle.je_base.specs.Files.{Contents}
 use Rattle.je_base.specs.Text.{is_same_text}
 use Rattle.je_consts.specs.Pool.{class_at}
@@ -84,6 +84,17 @@ with_class pool c = record pool { classes = pool.classes ++ c ∷ [] }
 -- another class in place of one
 abbrev pub with_changed : PoolState → ℕ → Class → PoolState
 with_changed pool id c = record pool { classes = slice_set pool.classes id c }
+
+-- what is found under a name where a class was put under its own name, which is this one or not
+abbrev pub FoundWith : Bool → Class → (Found → Type 0) → Found → Type 0
+FoundWith true c Told found = found ≡ IsClass c
+FoundWith false c Told found = Told found
+
+-- Over all files: under the name of the class it is found, and what was found under every other.
+abbrev pub Puts : PoolState → Class → PoolState → Type 0
+Puts old c new =
+    (files : Contents) (name : Name) (found : Found) → PoolTells new files name found
+    ↔ FoundWith (is_name name (name_at c)) c (PoolTells old files name) found
 
 -- what may be done with a class; so far all is
 abbrev pub state_of : PoolState → ℕ → State

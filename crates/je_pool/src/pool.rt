@@ -10,7 +10,7 @@ ghost use Rattle.je_desc.specs.Fit.{IsFit};
 ghost use Rattle.je_world.specs.Question.{Name};
 ghost use Rattle.je_world.specs.World.{listed};
 ghost use Rattle.je_pool.specs.declared.fault.AddStop.{AddStop};
-ghost use Rattle.je_pool.specs.Pool.{kept, name_at, is_taken, with_class, with_changed};
+ghost use Rattle.je_pool.specs.Pool.{kept, name_at, is_taken, with_class, with_changed, Puts};
 ghost use Rattle.je_pool.specs.Pool.{state_of, RefusesClass, RefusesChange};
 
 use crate::fault::{AddStop, PoolRefusal, Stop};
@@ -77,6 +77,7 @@ impl Pool {
             name_at class ≡ Some name → is_taken self.old name ≡ true }
         ensures free { OnOk result ((name : Name) →
             name_at class ≡ Some name → is_taken self.old name ≡ false) }
+        ensures puts { OnOk result (Puts self.old class self.new) }
     {
         if self.is_taken(class.this_name()) {
             return Err(AddStop::Taken);
