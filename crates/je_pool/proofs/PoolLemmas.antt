@@ -1,6 +1,6 @@
 -- A class more in a pool leaves what is found, where it is what the files tell.
-use Rattle.std.proofs.Common.{◌≡◌, ℕ, ◌≤◌, ◌↔◌, Bool, true, false, cond, List, [], ◌∷◌, ◌++◌, length, Option, Some, None, refl, sym, ap, ◌∙◌, subst}
-use Rattle.std.specs.Prelude.{slice_get, is_some, ◌||◌}
+use Rattle.std.proofs.Common.{◌≡◌, ℕ, zero, suc, take, slice_set, ◌≤◌, ◌↔◌, Bool, true, false, cond, List, [], ◌∷◌, ◌++◌, length, Option, Some, None, refl, sym, ap, ◌∙◌, subst}
+use Rattle.std.specs.Prelude.{slice_get, is_some, ◌||◌, IsSomeAnd}
 use Rattle.std.specs.Option.{option_or}
 use Rattle.std.proofs.lemmas.Slice.Eq.{slice_eq-Decides}
 use Rattle.std.proofs.lemmas.Bool.Decides.{Decides-eqb}
@@ -15,7 +15,7 @@ use Rattle.je_class.specs.Faults.{FirstFault}
 use Rattle.je_world.specs.Question.{Name}
 use Rattle.je_pool.specs.Found.{Found, Nothing, IsClass, BadClass, WrongName, IsNamed, FileIs, FileTells, WorldOf, file_of}
 use Rattle.je_world.specs.World.{is_listed}
-use Rattle.je_pool.specs.Pool.{PoolState, kept, is_name, is_taken, name_at, FoundBy, FoundWith, Puts, SameWorld, with_class}
+use Rattle.je_pool.specs.Pool.{PoolState, kept, is_name, is_taken, name_at, IsFirst, FoundBy, FoundWith, Puts, SameWorld, with_class, with_changed}
 
 -- bytes are one class file or have one first fault
 pub record OneClass : Type 0 where
@@ -161,3 +161,49 @@ pub puts_added : (old new : PoolState) (c : Class) → new ≡ with_class old c 
 puts_added old new c is free =
     let P : PoolState → Type 0 = λ s. Puts old c s in
     subst P (sym is) (puts_more old c (λ own named. free_none (kept own old.classes) (is_listed own old.asked) (free own named)))
+
+-- ---- a class in place of one of its name
+
+rest_none : (e : Class) (b : Bool) (o : Option Class) → cond b (Some e) o ≡ None → o ≡ None
+rest_none e false o none = none
+rest_none e true o none = absurd cc
+
+at_place : (c e : Class) (rest : Option Class) (b own : Bool) → own ≡ b → cond b (Some c) rest ≡ cond b (Some c) (cond own (Some e) rest)
+at_place c e rest true own same = refl
+at_place c e rest false own same = subst (λ (x : Bool). rest ≡ cond x (Some e) rest) (sym same) refl
+
+behind : (c e : Class) (new old front : Option Class) (b own : Bool) → new ≡ cond b (Some c) old → (b ≡ true → cond own (Some e) front ≡ None) → cond own (Some e) new ≡ cond b (Some c) (cond own (Some e) old)
+behind c e new old front b false is none = is
+behind c e new old front false true is none = refl
+behind c e new old front true true is none = let h : Some e ≡ None = none refl in absurd cc
+
+kept_changed : (name : Name) (c d : Class) (b : Bool) → is_name name (name_at c) ≡ b → name_at d ≡ name_at c → (classes : List Class) (i : ℕ) → slice_get classes i ≡ Some d → (b ≡ true → kept name (take i classes) ≡ None) → kept name (slice_set classes i c) ≡ cond b (Some c) (kept name classes)
+kept_changed name c d b test same [] i at none = absurd cc
+kept_changed name c d b test same (e ∷ classes) zero at none =
+    let is : e ≡ d = cc in
+    let own : is_name name (name_at e) ≡ b = ap (λ (x : Class). is_name name (name_at x)) is ∙ ap (is_name name) same ∙ test in
+    subst (λ (x : Bool). cond x (Some c) (kept name classes) ≡ cond b (Some c) (cond (is_name name (name_at e)) (Some e) (kept name classes))) (sym test) (at_place c e (kept name classes) b (is_name name (name_at e)) own)
+kept_changed name c d b test same (e ∷ classes) (suc i) at none =
+    let rest = kept_changed name c d b test same classes i at (λ is. rest_none e (is_name name (name_at e)) (kept name (take i classes)) (none is)) in
+    behind c e (kept name (slice_set classes i c)) (kept name classes) (kept name (take i classes)) b (is_name name (name_at e)) rest none
+
+first_under : (name : Name) (front : List Class) (own : Option Name) → ((n : Name) → own ≡ Some n → kept n front ≡ None) → is_name name own ≡ true → kept name front ≡ None
+first_under name front None none is = absurd cc
+first_under name front (Some own) none is = subst (λ (n : Name). kept n front ≡ None) (same_text own name is) (none own refl)
+
+swap : (Told : Found → Type 0) (o : Option Class) (c : Class) (found : Found) (b : Bool) → FoundBy (cond b (Some c) o) Told found ↔ FoundWith b c (FoundBy o Told) found
+swap Told o c found true = (λ h. h, λ h. h)
+swap Told o c found false = (λ h. h, λ h. h)
+
+pub puts_changed : (old new : PoolState) (id : ℕ) (c : Class) → new ≡ with_changed old id c → IsSomeAnd (slice_get old.classes id) (λ before. name_at before ≡ name_at c) → IsFirst old id c → Puts old c new
+puts_changed old new id c is same first = go (slice_get old.classes id) refl same
+  where
+    go : (o : Option Class) → slice_get old.classes id ≡ o → IsSomeAnd o (λ before. name_at before ≡ name_at c) → Puts old c new
+    go None at same = absurd same
+    go (Some d) at same =
+        let P : PoolState → Type 0 = λ s. Puts old c s in
+        subst P (sym is) (λ files name found.
+        let Told = WorldOf files old.roots name in
+        let kept_is = kept_changed name c d (is_name name (name_at c)) refl same old.classes id at (first_under name (take id old.classes) (name_at c) first) in
+        let Q : Option Class → Type 0 = λ o. FoundBy o Told found ↔ FoundWith (is_name name (name_at c)) c (FoundBy (kept name old.classes) Told) found in
+        subst Q (sym kept_is) (swap Told (kept name old.classes) c found (is_name name (name_at c))))

@@ -1,7 +1,7 @@
 -- A pool: classes that are kept, over folders of class files.
 use Rattle.std.specs.Prelude.{◌≡◌, ℕ, Bool, false, List, [], ◌∷◌, ◌++◌, ◌↔◌, slice_get}
 use Rattle.std.specs.Prelude.{Option, Some, None, Result, Ok, Err, IsSomeAnd, if◌then◌else◌}
-use Rattle.std.specs.Prelude.{slice_set, is_some, ◌||◌, true}
+use Rattle.std.specs.Prelude.{slice_set, is_some, ◌||◌, true, take}
 use Rattle.je_base.specs.Files.{Contents}
 use Rattle.je_base.specs.Text.{is_same_text}
 use Rattle.je_consts.specs.Pool.{class_at}
@@ -95,6 +95,11 @@ abbrev pub Puts : PoolState → Class → PoolState → Type 0
 Puts old c new =
     (files : Contents) (name : Name) (found : Found) → PoolTells new files name found
     ↔ FoundWith (is_name name (name_at c)) c (PoolTells old files name) found
+
+-- no class before this place has the name of this class
+abbrev pub IsFirst : PoolState → ℕ → Class → Type 0
+IsFirst pool id c =
+    (name : Name) → name_at c ≡ Some name → kept name (take id pool.classes) ≡ None
 
 -- what may be done with a class; so far all is
 abbrev pub state_of : PoolState → ℕ → State

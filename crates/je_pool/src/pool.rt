@@ -10,7 +10,7 @@ ghost use Rattle.je_desc.specs.Fit.{IsFit};
 ghost use Rattle.je_world.specs.Question.{Name};
 ghost use Rattle.je_world.specs.World.{listed};
 ghost use Rattle.je_pool.specs.declared.fault.AddStop.{AddStop};
-ghost use Rattle.je_pool.specs.Pool.{kept, name_at, is_taken, with_class, with_changed, Puts};
+ghost use Rattle.je_pool.specs.Pool.{kept, name_at, is_taken, with_class, with_changed, Puts, IsFirst};
 ghost use Rattle.je_pool.specs.Pool.{state_of, RefusesClass, RefusesChange};
 
 use crate::fault::{AddStop, PoolRefusal, Stop};
@@ -113,9 +113,22 @@ impl Pool {
         ensures ok { OnOk result (self.new ≡ with_changed self.old id.0 class) }
         ensures err { OnErr result (self.new ≡ self.old) }
         ensures refused { IfErr result (RefusesChange (state_of self.old id.0)) }
+        ensures puts { OnOk result (IsFirst self.old id.0 class → Puts self.old class self.new) }
+    {
+        match self.exchange(id, class) {
+            Ok(()) => Ok(()),
+            Err(_) => Err(Stop::Memory),
+        }
+    }
+
+    /// Puts a class in the place of another one.
+    fn exchange(&mut self, id: ClassId, class: ClassFile) -> Result<(), Memory>
+        requires { id.0 < length self.old.classes }
+        ensures ok { OnOk result (self.new ≡ with_changed self.old id.0 class) }
+        ensures err { OnErr result (self.new ≡ self.old) }
     {
         let Ok(node) = Node::of(class) else {
-            return Err(Stop::Memory);
+            return Err(Memory);
         };
         self.nodes[id.0] = node;
         Ok(())
