@@ -1,13 +1,22 @@
 //! Laws of the grammar.
 
-ghost use Rattle.std.specs.Prelude.{◌≡◌};
+ghost use Rattle.std.specs.Prelude.{◌≡◌, [], ◌∷◌, codes};
+ghost use Rattle.je_tokens.specs.declared.token.TokenKind.TheVariants as kind;
+ghost use Rattle.je_tree.specs.Faults.{FirstUnexpected};
 ghost use Rattle.je_tree.specs.FragmentGrammar.{IsFragment};
 ghost use Rattle.je_tree.specs.Nodes.{block_nodes};
-ghost use Rattle.je_tree.specs.Sample.{tokens, from_the_left, from_the_right};
+ghost use Rattle.je_tree.specs.Sample.{tokens, from_the_left, from_the_right, column, token_at};
 
 /// A difference is read from the left, and not from the right.
 pub fn differences_go_from_the_left()
     ensures left { IsFragment tokens from_the_left }
     ensures right { IsFragment tokens from_the_right → ⊥ }
     ensures nodes { block_nodes from_the_left ≡ 9 }
+{}
+
+/// An empty text is unexpected at its end, and one that begins with `}` at that token.
+pub fn first_faults()
+    ensures empty { FirstUnexpected [] (column 1) (column 1) }
+    ensures brace { FirstUnexpected (token_at 0 1 (kind.Mark (codes "}")) ∷ tokens) (column 20)
+        (column 1) }
 {}
