@@ -1,6 +1,8 @@
 //! Laws of the grammar.
 
-ghost use Rattle.std.specs.Prelude.{◌≡◌, [], ◌∷◌, codes};
+ghost use Rattle.std.specs.Prelude.{◌≡◌, List, [], ◌∷◌, codes};
+ghost use Rattle.je_base.specs.declared.pos.Pos.{Pos as Place};
+ghost use Rattle.je_tokens.specs.declared.token.Token.{Token as AnyToken};
 ghost use Rattle.je_tokens.specs.declared.token.TokenKind.TheVariants as kind;
 ghost use Rattle.je_tree.specs.Faults.{FirstUnexpected};
 ghost use Rattle.je_tree.specs.FragmentGrammar.{IsFragment};
@@ -19,4 +21,10 @@ pub fn first_faults()
     ensures empty { FirstUnexpected [] (column 1) (column 1) }
     ensures brace { FirstUnexpected (token_at 0 1 (kind.Mark (codes "}")) ∷ tokens) (column 20)
         (column 1) }
+{}
+
+/// There is one first fault of a list of tokens, at one position.
+pub fn one_first_fault()
+    ensures one { (list : List AnyToken) (last pos other : Place) → FirstUnexpected list last pos →
+        FirstUnexpected list last other → pos ≡ other }
 {}

@@ -1,7 +1,8 @@
 //! The syntax of fragments: their trees.
 //!
 //! Stands on je_base, je_desc and je_tokens. Offers above: the types of trees and plans; and in
-//! specs/ the trees of fragments, which tokens a tree has, how many nodes, and what a first fault is.
+//! specs/ the trees of fragments, which tokens a tree has, how many nodes, and what a first fault
+//! is.
 #![tactic(auto)]
 
 mod laws;
@@ -10,7 +11,7 @@ mod operators;
 mod plans;
 mod trees;
 
-pub use laws::{differences_go_from_the_left, first_faults};
+pub use laws::{differences_go_from_the_left, first_faults, one_first_fault};
 pub use names::{Base, Ident, Literal, Name, Prim, TypeName};
 pub use operators::{AssignOp, BinaryOp, CastTo, StepOp, UnaryOp};
 pub use plans::{CatchPlan, Context, Import, MethodPlan, Place, Rule};
