@@ -1,8 +1,8 @@
 -- The nodes of a fragment, and how deep they stand. A node is each statement, each block that is
 -- none, each catch, declared variable, initialiser in braces, `$$` and expression, and each
 -- identifier of a Name, also of one in a type. Parentheses and types are no nodes.
-use Rattle.std.specs.Prelude.{ℕ, ◌+◌, length, Option, Some, None}
-use Rattle.std.specs.List.{sum_by}
+use Rattle.std.specs.Prelude.{ℕ, ◌+◌, ◌-◌, ◌^◌, min, List, [], ◌∷◌, length}
+use Rattle.std.specs.Prelude.{Option, Some, None}
 use Rattle.je_tree.specs.declared.names.Name.{Name}
 use Rattle.je_tree.specs.declared.names.Base.{Base}
 use Rattle.je_tree.specs.declared.names.Base.TheVariants as base
@@ -14,11 +14,16 @@ use Rattle.je_tree.specs.Tree.{class_field, class_call, name_call, super_call, n
 use Rattle.je_tree.specs.Tree.{new_array, new_items, field, method, index, step, unary, cast}
 use Rattle.je_tree.specs.Tree.{binary, instance_of, choose, assign}
 use Rattle.je_tree.specs.Tree.{Exprs, no_exprs, more_exprs, Args, no_args, more_args}
-use Rattle.je_tree.specs.Tree.{all_parameters, Init, no_init, value, items, Local}
+use Rattle.je_tree.specs.Tree.{all_parameters, Init, no_init, value, items}
+use Rattle.je_tree.specs.Tree.{Variable, Local}
 use Rattle.je_tree.specs.Tree.{ForInit, declares, starts, Stmt, block, empty, local, expr}
 use Rattle.je_tree.specs.Tree.{if_only, if_else, while_loop, do_loop, for_loop, returns, throws}
 use Rattle.je_tree.specs.Tree.{breaks, continues, tries, Block, braces, Stmts, no_stmts, more_stmts}
 use Rattle.je_tree.specs.Tree.{Catches, no_catches, more_catches}
+
+-- a number in 32 bits, of which the greatest stands for all above it
+abbrev pub counted : ℕ → ℕ
+counted n = min n (2 ^ 32 - 1)
 
 -- how many identifiers
 abbrev pub name_nodes : Name → ℕ
@@ -78,9 +83,13 @@ init_nodes no_init = 0
 init_nodes (value e) = expr_nodes e
 init_nodes (items pos content) = exprs_nodes content + 1
 
+abbrev pub variables_nodes : List Variable → ℕ
+variables_nodes [] = 0
+variables_nodes (v ∷ more) = init_nodes v.init + 1 + variables_nodes more
+
 abbrev pub local_nodes : Local → ℕ
 local_nodes declared =
-    type_nodes declared.type_name + sum_by (λ v. init_nodes v.init + 1) declared.variables
+    type_nodes declared.type_name + variables_nodes declared.variables
 
 abbrev pub for_init_nodes : ForInit → ℕ
 for_init_nodes (declares declared) = local_nodes declared

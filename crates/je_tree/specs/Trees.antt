@@ -2,9 +2,12 @@
 use Rattle.std.specs.Prelude.{map, Option, Some, None}
 use Rattle.std.specs.Option.{option_map}
 use Rattle.je_tree.specs.declared.trees.Expr.{Expr, fold-Expr}
+use Rattle.je_tree.specs.declared.trees.Arg.{Arg, fold-Arg}
 use Rattle.je_tree.specs.declared.trees.Arg.TheOpen.{Arg-F, Expr-F}
 use Rattle.je_tree.specs.declared.trees.Stmt.TheOpen.{Stmt-F, Block-F, Catch-F}
+use Rattle.je_tree.specs.declared.trees.Stmt.{Stmt, fold-Stmt}
 use Rattle.je_tree.specs.declared.trees.Block.{Block, fold-Block}
+use Rattle.je_tree.specs.declared.trees.Catch.{Catch, fold-Catch}
 use Rattle.je_tree.specs.declared.trees.Local.{Local}
 use Rattle.je_tree.specs.declared.trees.Variable.{Variable}
 use Rattle.je_tree.specs.declared.trees.Init.{Init}
@@ -48,6 +51,9 @@ expr_level (Expr-F.Assign left op right) = tree.assign left op right
 
 abbrev pub expr_of : Expr → tree.Expr
 expr_of e = fold-Expr tree.Arg tree.Expr arg_level expr_level e
+
+abbrev pub arg_of : Arg → tree.Arg
+arg_of a = fold-Arg tree.Arg tree.Expr arg_level expr_level a
 
 abbrev pub init_of : Option Init → tree.Init
 init_of None = tree.no_init
@@ -94,6 +100,12 @@ catch_level c = record {
   variable = c.variable;
   body = c.block;
 }
+
+abbrev pub stmt_of : Stmt → tree.Stmt
+stmt_of s = fold-Stmt tree.Stmt tree.Block tree.Catch stmt_level block_level catch_level s
+
+abbrev pub catch_of : Catch → tree.Catch
+catch_of c = fold-Catch tree.Stmt tree.Block tree.Catch stmt_level block_level catch_level c
 
 abbrev pub block_of : Block → tree.Block
 block_of b = fold-Block tree.Stmt tree.Block tree.Catch stmt_level block_level catch_level b

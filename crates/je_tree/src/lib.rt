@@ -5,12 +5,15 @@
 //! is.
 #![tactic(auto)]
 
+mod count;
+mod fragment;
 mod laws;
 mod names;
 mod operators;
 mod plans;
 mod trees;
 
+pub use fragment::nodes;
 pub use laws::{differences_go_from_the_left, first_faults, one_first_fault};
 pub use names::{Base, Ident, Literal, Name, Prim, TypeName};
 pub use operators::{AssignOp, BinaryOp, CastTo, StepOp, UnaryOp};
