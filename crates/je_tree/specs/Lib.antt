@@ -3,6 +3,10 @@ pub mod Terminals
 pub mod Levels
 pub mod FragmentGrammar
 pub mod Nodes
+pub mod Depth
+pub mod Names
 pub mod Faults
 pub mod Trees
+pub mod Lawful
+pub mod Plans
 pub mod Sample

@@ -34,6 +34,10 @@ variable n text = tree.name (record { parts = record { text = text; pos = column
 abbrev pub one : Expr
 one = tree.literal (column 11) (literal.Whole 1 false true)
 
+-- the number next above the greatest of `int`
+abbrev pub next_int : Pos → Expr
+next_int pos = tree.literal pos (literal.Whole 2147483648 false true)
+
 abbrev pub minus : Expr → Expr → Expr
 minus left right = tree.binary left op.Subtract right
 
@@ -47,3 +51,7 @@ from_the_left = block_of_one (minus (minus (variable 3 (codes "a")) (variable 7 
 
 abbrev pub from_the_right : Block
 from_the_right = block_of_one (minus (variable 3 (codes "a")) (minus (variable 7 (codes "b")) one))
+
+-- a block of one block
+abbrev pub in_a_block : Block → Block
+in_a_block b = tree.braces (column 1) (tree.more_stmts (tree.block b) tree.no_stmts)

@@ -1,4 +1,4 @@
--- Serves private functions alone so far: the trees of the program, as those of the grammar.
+-- The trees of the program, as those of the grammar.
 use Rattle.std.specs.Prelude.{map, Option, Some, None}
 use Rattle.std.specs.Option.{option_map}
 use Rattle.je_tree.specs.declared.trees.Expr.{Expr, fold-Expr}

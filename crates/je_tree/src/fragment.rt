@@ -17,7 +17,7 @@ use crate::trees::{Block, Catch, Expr, ForInit, Fragment, Init, Local, Stmt, Var
 /// A node is each statement, each block that is none, each catch, declared variable, initialiser in
 /// braces, `$$` and expression, and each identifier of a name. Parentheses and types are no nodes.
 pub fn nodes(f: &Fragment) -> u32
-    ensures { result ≡ counted (block_nodes (fragment_of f.now)) }
+    ensures number { result ≡ counted (block_nodes (fragment_of f.now)) }
 {
     block_count(&f.block)
 }
