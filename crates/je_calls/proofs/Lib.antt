@@ -10,3 +10,4 @@ pub mod FlowLemmas
 pub mod ItemLemmas
 pub mod TargetLemmas
 pub mod ProgramLemmas
+pub mod MappedLemmas

@@ -9,6 +9,7 @@ mod agrees;
 mod blocks;
 mod choose;
 mod laws;
+mod mapped;
 mod programs;
 mod reach;
 mod replace;
@@ -17,6 +18,7 @@ mod stop;
 
 pub use agrees::new_programs_agree;
 pub use laws::reached_is_one;
+pub use mapped::instructions_are_mapped;
 pub use programs::replaced_programs;
 pub use replace::{Replaced, replace_calls};
 pub use rule::{Choice, Fragment, Rule};
